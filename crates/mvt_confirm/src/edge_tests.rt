@@ -3,7 +3,6 @@
 
 ghost use Rattle.std.specs.Prelude.{◌≡◌, ◌↔◌, IsTrue, List, ◌*ℤ◌};
 ghost use Rattle.mvt_confirm.specs.Calls.EdgeTests.{AreEdgesOf, IsApartAfter};
-ghost use Rattle.mvt_rules.specs.PolygonFault.{number_of};
 ghost use Rattle.mvt_plane.specs.Geometry.Inside.{PassesOver};
 ghost use Rattle.mvt_rules.specs.Meeting.{ComesBefore, MeetsWrongly};
 ghost use Rattle.mvt_plane.specs.Position.{Position, IsCoordinate};
@@ -39,7 +38,7 @@ pub(crate) fn passes_over(position: Point, a: Point, b: Point) -> bool
 
 /// Whether two edges are in order: by their rings, and in one ring by their own ordinals.
 pub(crate) fn comes_before(first: RingEdge, second: RingEdge) -> bool
-    ensures { IsTrue result ↔ ComesBefore (number_of first) (number_of second) }
+    ensures { IsTrue result ↔ ComesBefore first second }
 {
     first.ring < second.ring || (first.ring == second.ring && first.edge < second.edge)
 }
@@ -57,9 +56,9 @@ pub(crate) fn meets_in_order(
 ) -> bool
     ensures { (rings : List (List Position)) → AreEdgesOf rings first.now second.now vertex_count
         → IsTrue result
-        ↔ (ComesBefore (number_of first.now.number) (number_of second.now.number)
+        ↔ (ComesBefore first.now.number second.now.number
         × IsBounded (record { x = x; y = y; w = w })
-        × MeetsWrongly rings (number_of first.now.number) (number_of second.now.number)
+        × MeetsWrongly rings first.now.number second.now.number
         (record { x = x; y = y; w = w })) }
 {
     if !comes_before(first.number, second.number) {
@@ -82,7 +81,7 @@ pub(crate) fn meets_at(
 ) -> bool
     ensures { (rings : List (List Position)) → AreEdgesOf rings first.now second.now vertex_count
         → IsTrue result
-        ↔ MeetsWrongly rings (number_of first.now.number) (number_of second.now.number) point.now }
+        ↔ MeetsWrongly rings first.now.number second.now.number point.now }
 {
     if first.number == second.number {
         return false;

@@ -3,7 +3,7 @@
 
 ghost use Rattle.std.specs.Prelude.{◌≡◌, ◌↔◌, ◌≤◌, ℕ, IsTrue, List, length, slice_get, Some, IfNone, IfSome};
 ghost use Rattle.mvt_confirm.specs.Calls.FeatureMessage.{DrawsRings};
-ghost use Rattle.mvt_rules.specs.PolygonFault.{IsMeetingBy, number_of};
+ghost use Rattle.mvt_rules.specs.PolygonFault.{IsMeetingBy};
 ghost use Rattle.mvt_rules.specs.Profiles.{IsKeptApart};
 ghost use Rattle.mvt_rules.specs.Meeting.{ComesBefore, IsEdgeOf, MeetsWrongly};
 ghost use Rattle.mvt_rules.specs.Polygon.{PolygonRings, IsPolygon, IsRingOf};
@@ -86,9 +86,9 @@ fn is_ring_of_polygon(feature: &FeatureMessage, polygon: usize, ring: usize) -> 
 /// Whether two edges, named in order, meet wrongly at this point.
 fn do_meet(feature: &FeatureMessage, meeting: EdgeMeeting) -> bool
     ensures { (rings : List (List Position)) → DrawsRings feature.now rings → (IsTrue result
-        ↔ (ComesBefore (number_of meeting.first) (number_of meeting.second)
+        ↔ (ComesBefore meeting.first meeting.second
         × IsBounded (record { x = meeting.x; y = meeting.y; w = meeting.w })
-        × MeetsWrongly rings (number_of meeting.first) (number_of meeting.second)
+        × MeetsWrongly rings meeting.first meeting.second
         (record { x = meeting.x; y = meeting.y; w = meeting.w }))) }
 {
     let Some(one) = edge_of_number(feature, meeting.first) else {
@@ -111,12 +111,12 @@ fn do_meet(feature: &FeatureMessage, meeting: EdgeMeeting) -> bool
 fn edge_of_number(feature: &FeatureMessage, number: RingEdge) -> Option<EdgeInRing>
     ensures number { IfSome result (λ found. found.numbered.number ≡ number) }
     ensures there { IfSome result (λ found. (rings : List (List Position))
-        → DrawsRings feature.now rings → IsEdgeOf rings (number_of number) found.numbered.edge) }
+        → DrawsRings feature.now rings → IsEdgeOf rings number found.numbered.edge) }
     ensures count { IfSome result (λ found. (rings : List (List Position)) (ring : List Position)
         → DrawsRings feature.now rings
         → slice_get rings number.ring ≡ Some ring → length ring ≡ found.vertex_count) }
     ensures none { IfNone result ((rings : List (List Position)) (edge : Edge)
-        → DrawsRings feature.now rings → ¬ IsEdgeOf rings (number_of number) edge) }
+        → DrawsRings feature.now rings → ¬ IsEdgeOf rings number edge) }
 {
     let walk = edges_of_ring(feature.vertices(), number.ring)?;
     let vertex_count = walk.count();

@@ -1,6 +1,6 @@
 -- The first fault of a feature whose polygons are kept apart, and the work of searching for it (Mapbox Vector Tile
 -- Specification 2.1, section 4.3.4.4).
-use Rattle.std.specs.Prelude.{ℕ, ◌+◌, ◌*◌, ◌<◌, ◌≤◌, List, Option, Some, None}
+use Rattle.std.specs.Prelude.{ℕ, ◌+◌, ◌*◌, ◌<◌, ◌≤◌, List, Option, Some, None, IfNone, IfSome}
 use Rattle.mvt_plane.specs.Counted.{Counted, ticked}
 use Rattle.mvt_rules.specs.Parts.Rings.{part_of}
 use Rattle.mvt_rules.specs.Polygon.{PolygonRings, IsPolygon}
@@ -77,3 +77,9 @@ IsCountedCause vertices before after (Apart fault) = raised vertices before.prob
 -- and so for a fault, by the vertices of its polygon
 abbrev pub IsCountedFault : List (List Position) → Counted → Counted → FeatureFault → Type 0
 IsCountedFault rings before after fault = IsCountedCause (vertex_count (part_of rings (rings_in fault))) before after fault.cause
+
+-- what is counted by the answer: where no polygon has a fault, one sweep at most, and at least a probe for each vertex
+pub record IsCountedAnswer (rings : List (List Position)) (before after : Counted) (answer : Option FeatureFault) : Type 0 where
+  pub valid : IfNone answer (AddsSweeps 1 (vertex_count rings) before after)
+  pub least : IfNone answer (raised (vertex_count rings) before.probes ≤ after.probes)
+  pub found : IfSome answer (IsCountedFault rings before after)

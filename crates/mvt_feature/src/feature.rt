@@ -3,7 +3,7 @@ ghost use Rattle.std.specs.Prelude.{◌≡◌, ℕ, ◌+◌, ◌<◌, ◌≤◌,
 ghost use Rattle.mvt_feature.specs.Calls.Alone.{earlier_of, own_fault, vertices_alone, IsAloneAnswer, IsOwnAnswer};
 ghost use Rattle.mvt_feature.specs.Calls.Islands.{AreMarked};
 ghost use Rattle.mvt_sweep.specs.Work.{vertex_count};
-ghost use Rattle.mvt_feature.specs.Feature.{AddsSweeps, AreAtMost, IsCountedFault, IsFeatureAnswer};
+ghost use Rattle.mvt_feature.specs.Feature.{AddsSweeps, AreAtMost, IsCountedAnswer, IsCountedFault, IsFeatureAnswer};
 ghost use Rattle.mvt_sweep.specs.Meeting.{NoMeeting};
 ghost use Rattle.mvt_rules.specs.Ring.{ArePolygonRings};
 ghost use Rattle.mvt_polygon.specs.Polygons.{ArePolygons};
@@ -91,13 +91,7 @@ pub fn check_feature(
         → AddsSweeps (bits polygons + 2) (vertex_count (rings_of rings.now)) count.old count.new }
     ensures apart { NoMeeting (rings_of rings.now)
         → AddsSweeps 2 (vertex_count (rings_of rings.now)) count.old count.new }
-    ensures valid { IfOk result (λ found.
-        IfNone found (AddsSweeps 1 (vertex_count (rings_of rings.now)) count.old count.new)) }
-    ensures least { IfOk result (λ found.
-        IfNone found (raised (vertex_count (rings_of rings.now)) count.old.probes
-        ≤ count.new.probes)) }
-    ensures found { IfOk result (λ found.
-        IfSome found (IsCountedFault (rings_of rings.now) count.old count.new)) }
+    ensures by_answer { IfOk result (IsCountedAnswer (rings_of rings.now) count.old count.new) }
 {
     let polygons = groups(alloc, rings)?;
     if polygons.len() == 1 {
@@ -128,13 +122,7 @@ fn check_parted(
         → AddsSweeps (bits polygons + 2) (vertex_count (rings_of rings.now)) count.old count.new }
     ensures apart { NoMeeting (rings_of rings.now)
         → AddsSweeps 2 (vertex_count (rings_of rings.now)) count.old count.new }
-    ensures valid { IfOk result (λ found.
-        IfNone found (AddsSweeps 1 (vertex_count (rings_of rings.now)) count.old count.new)) }
-    ensures least { IfOk result (λ found.
-        IfNone found (raised (vertex_count (rings_of rings.now)) count.old.probes
-        ≤ count.new.probes)) }
-    ensures found { IfOk result (λ found.
-        IfSome found (IsCountedFault (rings_of rings.now) count.old count.new)) }
+    ensures by_answer { IfOk result (IsCountedAnswer (rings_of rings.now) count.old count.new) }
 {
     let alone = fault_alone(alloc, rings, polygons, crowded, count)?;
     let gathered = gather(alloc, rings, polygons, crowded)?;

@@ -12,14 +12,14 @@ use Rattle.mvt_polygon.proofs.ApartFaults.{ends_within}
 use Rattle.mvt_rules.specs.Ring.{ArePolygonRings}
 use Rattle.mvt_polygon.specs.Apart.{IsApartFault, IsFirstApartFault}
 use Rattle.mvt_feature.specs.Feature.{IsFeatureCause, IsClear, IsFirstFault, front_of, rings_in}
-use Rattle.mvt_sweep.specs.Meeting.{IsMeetingOf, NoMeeting}
+use Rattle.mvt_sweep.specs.Meeting.{IsMeetingOf, NoMeeting, first_of, second_of}
 use Rattle.mvt_polygon.specs.declared.apart.ApartFault.{ApartFault}
 use Rattle.mvt_feature.specs.declared.feature.FeatureCause.{FeatureCause}
 use Rattle.mvt_feature.specs.declared.feature.FeatureCause.TheVariants.{Meeting, Nesting, Apart}
 use Rattle.mvt_feature.specs.declared.feature.FeatureFault.{FeatureFault}
 use Rattle.mvt_sweep.specs.declared.meeting.Meeting.{Meeting as MeetingOf}
 use Rattle.mvt_gate.proofs.PolygonFaults.{HasGoodHoles, in_polygon_is_least, meeting_is_least}
-use Rattle.mvt_gate.proofs.PolygonParts.{apart_in_whole, apart_of_front, enclosed_in_whole, first_edge, first_hole_is_least, meeting_of_front, second_edge}
+use Rattle.mvt_gate.proofs.PolygonParts.{apart_in_whole, apart_of_front, enclosed_in_whole, first_hole_is_least, meeting_of_front}
 use Rattle.mvt_gate.specs.Calls.Polygons.{AreValidBefore, IsFirstOfRings, apart_fault, cause_fault, meeting_fault}
 use Rattle.mvt_gate.specs.declared.polygons.PolygonPlace.{PolygonPlace}
 
@@ -93,7 +93,7 @@ by_vertex vertex other place another (inr same) = inr (
 least_of_front : (parts : List (List Position)) (place : PolygonPlace) (its : PolygonRings) (found : MeetingOf) → IsPolygonOf parts place.polygon its → AreValidBefore Feature parts place.polygon
     → IsMeetingOf (part_of parts (front_of its)) found → IsFirstOfRings Feature parts place.layer place.feature (meeting_fault place found)
 least_of_front parts place its found of_it valid meets =
-    meeting_is_least Feature parts place.layer place.feature place.polygon (first_edge found) (second_edge found) found.point.x found.point.y found.point.w valid
+    meeting_is_least Feature parts place.layer place.feature place.polygon (first_of found) (second_of found) found.point.x found.point.y found.point.w valid
     (meeting_of_front parts place.polygon its found (ends_within parts place.polygon its of_it.there) of_it valid meets)
 
 -- so is the first vertex that is inside another polygon, where the polygon has no other fault

@@ -20,7 +20,8 @@ use Rattle.mvt_feature.specs.declared.feature.FeatureFault.{FeatureFault}
 use Rattle.mvt_tile.specs.FreeFaults.{of_least, of_free}
 use Rattle.mvt_rules.specs.Tile.{FeatureRecord}
 use Rattle.mvt_gate.proofs.FeatureFaults.{least_of_found, place_in, valid_of_none}
-use Rattle.mvt_gate.proofs.PolygonParts.{first_edge, meeting_of_its_edge, second_edge}
+use Rattle.mvt_sweep.specs.Meeting.{first_of, second_of}
+use Rattle.mvt_gate.proofs.PolygonParts.{meeting_of_its_edge}
 use Rattle.mvt_gate.specs.Calls.Polygons.{IsFeatureAnswerFor, IsFirstOfRingsFor, cause_fault}
 use Rattle.mvt_gate.specs.declared.polygons.PolygonPlace.{PolygonPlace}
 use Rattle.mvt_gate.specs.declared.quick.Search.{Search}
@@ -39,7 +40,7 @@ begins_alike profile it layer feature fault (in_polygon number vertex other of) 
 meeting_is_free : (parts : List (List Position)) (place : PolygonPlace) (its : PolygonRings) (cause : FeatureCause) → IsPolygonOf parts place.polygon its → IsMeetingCause parts its cause → IsFirstOfRingsFor Quick Feature parts place.layer place.feature (cause_fault place cause)
 meeting_is_free parts place its (Meeting found) of_it is = λ it has.
     of_free tt
-    (meeting place.polygon (first_edge found) (second_edge found) found.point.x found.point.y found.point.w
+    (meeting place.polygon (first_of found) (second_of found) found.point.x found.point.y found.point.w
     (parts, has, meeting_of_its_edge parts place.polygon its found (ends_within parts place.polygon its of_it.there) of_it is.1 is.0))
     (λ other broken. begins_alike Feature it place.layer place.feature other broken)
 meeting_is_free parts place its (Nesting fault) of_it is = absurd is

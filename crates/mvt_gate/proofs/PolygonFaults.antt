@@ -3,7 +3,7 @@ use Rattle.std.proofs.Common.{◌≡◌, ℕ, ◌<◌, ◌≤◌, inl, inr, List
 use Rattle.std.proofs.lemmas.Bool.{cases_lt}
 use Rattle.mvt_rules.proofs.Validity.InvalidRings.{not_sound}
 use Rattle.mvt_rules.specs.Parts.Geometry.{IsFaultOfGeometryBy, command, ring, meeting, outside, hole_in_hole, in_polygon}
-use Rattle.mvt_rules.specs.PolygonFault.{number_of, IsPolygonOf, IsMeetingBy, IsVertexOutside, IsVertexInHole, IsVertexInPolygonBy}
+use Rattle.mvt_rules.specs.PolygonFault.{IsPolygonOf, IsMeetingBy, IsVertexOutside, IsVertexInHole, IsVertexInPolygonBy}
 use Rattle.mvt_rules.specs.Profiles.{IsKeptApart}
 use Rattle.mvt_rules.specs.Valid.{AreApartBy}
 use Rattle.mvt_fault.proofs.Places.{ComesFirst-reflexive}
@@ -30,7 +30,7 @@ use Rattle.mvt_gate.specs.Calls.Polygons.{IsFirstOfRings, AreValidBefore}
 no_meeting : (profile : Profile) (parts : List (List Position)) (polygon : ℕ) (its : PolygonRings) (first second : RingEdge) (point : RationalPoint) → IsPolygon parts polygon its → AreApartBy profile parts its → ¬ IsMeetingBy profile parts polygon first second point
 no_meeting profile parts polygon its first second point there apart meets =
     let same : meets.polygon_rings ≡ its = same_polygon parts polygon meets.polygon_rings its meets.of.there there in
-    apart (number_of first) (number_of second) point
+    apart first second point
     (subst (λ (it : PolygonRings). IsKeptApart profile it first.ring) same meets.first_in)
     (subst (λ (it : PolygonRings). IsRingOf it second.ring) same meets.second_in)
     meets.meets
@@ -53,7 +53,7 @@ at_least number polygon none = elim (cases_lt number polygon) [ inl less ↦ abs
 
 meeting_at_least : (profile : Profile) (parts : List (List Position)) (polygon number : ℕ) (first second : RingEdge) (point : RationalPoint) → AreValidBefore profile parts polygon → IsMeetingBy profile parts number first second point → polygon ≤ number
 meeting_at_least profile parts polygon number first second point valid meets =
-    at_least number polygon (λ less. (valid number meets.polygon_rings less meets.of.there).apart (number_of first) (number_of second) point meets.first_in meets.second_in meets.meets)
+    at_least number polygon (λ less. (valid number meets.polygon_rings less meets.of.there).apart first second point meets.first_in meets.second_in meets.meets)
 
 outside_at_least : (profile : Profile) (parts : List (List Position)) (polygon number hole vertex : ℕ) → AreValidBefore profile parts polygon → IsVertexOutside parts number hole vertex → polygon ≤ number
 outside_at_least profile parts polygon number hole vertex valid of =

@@ -11,14 +11,14 @@ use Rattle.mvt_fault.specs.Place.{ComesFirst}
 use Rattle.mvt_fault.specs.declared.ring.RingEdge.{RingEdge}
 use Rattle.mvt_rules.proofs.Rings.PolygonNumbers.{polygon_of_ring}
 use Rattle.mvt_rules.proofs.Rings.PartsOfRings.{number_in_part, meeting_in_part, outside_in_part, in_hole_in_part}
-use Rattle.mvt_rules.specs.Meeting.{EdgeNumber, MeetsWrongly}
+use Rattle.mvt_rules.specs.Meeting.{MeetsWrongly}
 use Rattle.mvt_rules.specs.Nesting.{IsOutside, IsInHole}
 use Rattle.mvt_rules.specs.Parts.Rings.{part_of, in_whole}
-use Rattle.mvt_rules.specs.Polygon.{PolygonRings, IsRingOf, IsHoleOf}
+use Rattle.mvt_rules.specs.Polygon.{PolygonRings, IsRingOf}
 use Rattle.mvt_plane.specs.Position.{Position}
 use Rattle.mvt_plane.specs.Geometry.RationalPoint.{RationalPoint}
-use Rattle.mvt_feature.proofs.Features.FirstMeetings.{rings_in_order}
-use Rattle.mvt_feature.proofs.Features.FaultsByRings.{whole_part}
+use Rattle.mvt_rules.proofs.Validity.UnshownMeetings.{rings_in_order}
+use Rattle.mvt_feature.proofs.Features.FaultsByRings.{in_hole_of_part, in_part, outside_of_part, whole_part}
 use Rattle.mvt_feature.proofs.Features.RingCopies.{count_of_front, front_copies, meeting_there, part_copies, ring_within}
 use Rattle.mvt_polygon.proofs.PolygonSlices.{ring_of_whole}
 use Rattle.mvt_polygon.specs.InFeature.{IsFirstNestFaultIn, IsMeetingIn, nest_moved}
@@ -33,26 +33,11 @@ use Rattle.mvt_gate.proofs.PolygonWalk.{begins_in_turn}
 use Rattle.mvt_gate.specs.Calls.Polygons.{AreValidBefore, IsFirstOfRings, hole_fault}
 use Rattle.mvt_gate.specs.declared.polygons.PolygonPlace.{PolygonPlace}
 
--- Rings
-
--- a ring of the polygon by its number in the part
-hole_in_part : (its : PolygonRings) (ring : ℕ) → IsHoleOf its ring → (own : ℕ) × (ring ≡ its.exterior + own)
-hole_in_part its ring hole =
-    let following = hole.following in
-    (ring - its.exterior, omega arith)
-
 -- Meetings
-
--- the edges of a meeting
-abbrev pub first_edge : Meeting → RingEdge
-first_edge found = record { ring = found.first_ring; edge = found.first_edge }
-
-abbrev pub second_edge : Meeting → RingEdge
-second_edge found = record { ring = found.second_ring; edge = found.second_edge }
 
 -- a meeting in the feature, of which the second edge is the polygon's and the first is to be kept apart from it
 meeting_of : (profile : Profile) (parts : List (List Position)) (polygon : ℕ) (its : PolygonRings) (found : Meeting) → IsPolygonOf parts polygon its → IsKeptApart profile its found.first_ring → IsRingOf its found.second_ring
-    → IsMeetingOf parts found → IsMeetingBy profile parts polygon (first_edge found) (second_edge found) found.point
+    → IsMeetingOf parts found → IsMeetingBy profile parts polygon (first_of found) (second_of found) found.point
 meeting_of profile parts polygon its found of_it first_in second_in meets = record {
   polygon_rings = its;
   of = of_it;
@@ -70,7 +55,7 @@ kept_of_own Feature its ring of_it = of_it.before
 
 -- a meeting of two edges of the polygon
 pub meeting_in_whole : (profile : Profile) (parts : List (List Position)) (polygon : ℕ) (its : PolygonRings) (found : Meeting) → its.after ≤ length parts → IsPolygonOf parts polygon its → IsMeetingIn parts its found
-    → IsMeetingBy profile parts polygon (first_edge found) (second_edge found) found.point
+    → IsMeetingBy profile parts polygon (first_of found) (second_of found) found.point
 meeting_in_whole profile parts polygon its found within of_it is =
     let first_below : is.alone.first_ring < its.after - its.exterior = (ring_of_whole parts its is.alone.first_ring is.is.one_there.ring within is.is.one_there.there).0 in
     let second_below : is.alone.second_ring < its.after - its.exterior = (ring_of_whole parts its is.alone.second_ring is.is.other_there.ring within is.is.other_there.there).0 in
@@ -112,7 +97,7 @@ second_in_front parts polygon its found of_it valid ends meets = elim (cases_lt 
 
 -- so it is a meeting of the polygon, in its feature
 pub meeting_of_front : (parts : List (List Position)) (polygon : ℕ) (its : PolygonRings) (found : Meeting) → its.after ≤ length parts → IsPolygonOf parts polygon its → AreValidBefore Feature parts polygon → IsMeetingOf (part_of parts (front_of its)) found
-    → IsMeetingBy Feature parts polygon (first_edge found) (second_edge found) found.point
+    → IsMeetingBy Feature parts polygon (first_of found) (second_of found) found.point
 meeting_of_front parts polygon its found within of_it valid meets =
     let edges = front_edges parts its found within meets in
     let whole = front_meeting parts its found within meets in
@@ -120,7 +105,7 @@ meeting_of_front parts polygon its found within of_it valid meets =
 
 -- also where its second edge is known to be the polygon's
 pub meeting_of_its_edge : (parts : List (List Position)) (polygon : ℕ) (its : PolygonRings) (found : Meeting) → its.after ≤ length parts → IsPolygonOf parts polygon its → IsRingOf its found.second_ring → IsMeetingOf (part_of parts (front_of its)) found
-    → IsMeetingBy Feature parts polygon (first_edge found) (second_edge found) found.point
+    → IsMeetingBy Feature parts polygon (first_of found) (second_of found) found.point
 meeting_of_its_edge parts polygon its found within of_it second_in meets =
     meeting_of Feature parts polygon its found of_it (front_edges parts its found within meets).0 second_in (front_meeting parts its found within meets)
 
@@ -132,59 +117,37 @@ apart_of_front parts its apart first second point before second_in =
 -- The polygon alone
 
 -- an edge of the polygon, by its numbers in the part
-edge_in_part : (its : PolygonRings) (number : EdgeNumber) → IsRingOf its number.ring → (own : EdgeNumber) × (own.ring < its.after - its.exterior) × (number ≡ in_whole its.exterior own)
+edge_in_part : (its : PolygonRings) (number : RingEdge) → IsRingOf its number.ring → (own : RingEdge) × (own.ring < its.after - its.exterior) × (number ≡ in_whole its.exterior own)
 edge_in_part its number of_it =
     let own = number_in_part its number.ring of_it in
     (record { ring = own.0; edge = number.edge }, own.1, ap (λ (ring : ℕ). record { ring = ring; edge = number.edge }) own.2)
 
 -- where no edges of the part meet wrongly, none of the polygon do
-pub apart_in_whole : (parts : List (List Position)) (its : PolygonRings) → ((first second : EdgeNumber) (point : RationalPoint) → ¬ MeetsWrongly (part_of parts its) first second point) → AreApartBy Polygon parts its
+pub apart_in_whole : (parts : List (List Position)) (its : PolygonRings) → ((first second : RingEdge) (point : RationalPoint) → ¬ MeetsWrongly (part_of parts its) first second point) → AreApartBy Polygon parts its
 apart_in_whole parts its none first second point first_in second_in meets =
     let own = edge_in_part its first first_in in
     let other = edge_in_part its second second_in in
     none own.0 other.0 point ((meeting_in_part parts its own.0 other.0 point own.1 other.1).1
-    (subst (λ (number : EdgeNumber). MeetsWrongly parts (in_whole its.exterior own.0) number point) other.2
-    (subst (λ (number : EdgeNumber). MeetsWrongly parts number second point) own.2 meets)))
+    (subst (λ (number : RingEdge). MeetsWrongly parts (in_whole its.exterior own.0) number point) other.2
+    (subst (λ (number : RingEdge). MeetsWrongly parts number second point) own.2 meets)))
 
 -- Holes
 
--- a vertex outside, by its numbers in the part
-outside_of_part : (parts : List (List Position)) (its : PolygonRings) (ring vertex : ℕ) → its.after ≤ length parts → IsOutside parts its (its.exterior + ring) vertex → IsNestFault (part_of parts its) (Outside ring vertex)
-outside_of_part parts its ring vertex within wrong =
-    outside ring vertex (subst (λ (it : PolygonRings). IsOutside (part_of parts its) it ring vertex) (sym (whole_part parts its within)) ((outside_in_part parts its ring vertex).1 wrong))
-
--- and one inside another hole
-in_hole_of_part : (parts : List (List Position)) (its : PolygonRings) (ring vertex other : ℕ) → its.after ≤ length parts → IsInHole parts its (its.exterior + ring) vertex (its.exterior + other) → IsNestFault (part_of parts its) (InHole ring vertex other)
-in_hole_of_part parts its ring vertex other within wrong =
-    in_hole ring vertex other (subst (λ (it : PolygonRings). IsInHole (part_of parts its) it ring vertex other) (sym (whole_part parts its within)) ((in_hole_in_part parts its ring vertex other).1 wrong))
-
--- the other way round
+-- a vertex outside in the part, by its numbers in the feature
 pub outside_in_whole : (parts : List (List Position)) (its : PolygonRings) (ring vertex : ℕ) → its.after ≤ length parts → IsNestFault (part_of parts its) (Outside ring vertex) → IsOutside parts its (its.exterior + ring) vertex
 outside_in_whole parts its _ _ within (outside ring vertex wrong) =
     (outside_in_part parts its ring vertex).0 (subst (λ (it : PolygonRings). IsOutside (part_of parts its) it ring vertex) (whole_part parts its within) wrong)
 
+-- and one inside another hole
 pub in_hole_in_whole : (parts : List (List Position)) (its : PolygonRings) (ring vertex other : ℕ) → its.after ≤ length parts → IsNestFault (part_of parts its) (InHole ring vertex other) → IsInHole parts its (its.exterior + ring) vertex (its.exterior + other)
 in_hole_in_whole parts its _ _ _ within (in_hole ring vertex other wrong) =
     (in_hole_in_part parts its ring vertex other).0 (subst (λ (it : PolygonRings). IsInHole (part_of parts its) it ring vertex other) (whole_part parts its within) wrong)
 
--- the number of a hole that a vertex is in
-own_other : (parts : List (List Position)) (its : PolygonRings) (ring vertex other : ℕ) → IsInHole parts its ring vertex other
-    → (own : ℕ) × (its_other : ℕ) × (ring ≡ its.exterior + own) × (other ≡ its.exterior + its_other)
-own_other parts its ring vertex other wrong =
-    let own = hole_in_part its ring wrong.hole in
-    let its_other = hole_in_part its other wrong.other_hole in
-    (own.0, its_other.0, own.1, its_other.1)
-
 -- where the part has no such vertex, the polygon has none
 pub enclosed_in_whole : (parts : List (List Position)) (its : PolygonRings) → its.after ≤ length parts → ((fault : NestFault) → ¬ IsNestFault (part_of parts its) fault) → HasGoodHoles parts its
 enclosed_in_whole parts its within none = record {
-  enclosed = λ ring vertex wrong.
-      let own = hole_in_part its ring wrong.hole in
-      none (Outside own.0 vertex) (outside_of_part parts its own.0 vertex within (subst (λ (n : ℕ). IsOutside parts its n vertex) own.1 wrong));
-  side_by_side = λ ring vertex other wrong.
-      let own = own_other parts its ring vertex other wrong in
-      none (InHole own.0 vertex own.1) (in_hole_of_part parts its own.0 vertex own.1 within
-      (subst (λ (n : ℕ). IsInHole parts its n vertex (its.exterior + own.1)) own.2 (subst (IsInHole parts its ring vertex) own.3 wrong)));
+  enclosed = λ ring vertex wrong. none (Outside (ring - its.exterior) vertex) (outside_of_part parts its ring vertex within wrong);
+  side_by_side = λ ring vertex other wrong. none (InHole (ring - its.exterior) vertex (other - its.exterior)) (in_hole_of_part parts its ring vertex other within wrong);
 }
 
 -- the last number of a place
@@ -219,16 +182,16 @@ shifted from ring vertex code other number place its_code another last its_last 
 pub outside_is_first : (parts : List (List Position)) (its : PolygonRings) (ring vertex : ℕ) → its.after ≤ length parts → IsFirstNestFault (part_of parts its) (Outside ring vertex) → IsFirstHole parts its ((its.exterior + ring) ∷ vertex ∷ 505 ∷ 0 ∷ [])
 outside_is_first parts its ring vertex within least = record {
   outside = λ hole place wrong.
-      let own = hole_in_part its hole wrong.hole in
-      let following = least.first (Outside own.0 place) (outside_of_part parts its own.0 place within (subst (λ (n : ℕ). IsOutside parts its n place) own.1 wrong)) in
-      subst (λ (n : ℕ). ComesFirst ((its.exterior + ring) ∷ vertex ∷ 505 ∷ 0 ∷ []) (n ∷ place ∷ 505 ∷ 0 ∷ [])) (sym own.1)
-      (shifted its.exterior ring vertex 505 0 own.0 place 505 0 0 0 (λ codes most. omega arith) following);
+      let own = hole - its.exterior in
+      let following = least.first (Outside own place) (outside_of_part parts its hole place within wrong) in
+      subst (λ (n : ℕ). ComesFirst ((its.exterior + ring) ∷ vertex ∷ 505 ∷ 0 ∷ []) (n ∷ place ∷ 505 ∷ 0 ∷ [])) (sym (in_part its hole wrong.hole))
+      (shifted its.exterior ring vertex 505 0 own place 505 0 0 0 (λ codes most. omega arith) following);
   in_hole = λ hole place other wrong.
-      let own = own_other parts its hole place other wrong in
-      let at : IsInHole parts its (its.exterior + own.0) place (its.exterior + own.1) = subst (λ (n : ℕ). IsInHole parts its n place (its.exterior + own.1)) own.2 (subst (IsInHole parts its hole place) own.3 wrong) in
-      let following = least.first (InHole own.0 place own.1) (in_hole_of_part parts its own.0 place own.1 within at) in
-      subst (λ (n : ℕ). ComesFirst ((its.exterior + ring) ∷ vertex ∷ 505 ∷ 0 ∷ []) (n ∷ place ∷ 506 ∷ other ∷ [])) (sym own.2)
-      (shifted its.exterior ring vertex 505 0 own.0 place 506 own.1 0 other (λ codes most. absurd (omega arith)) following);
+      let own = hole - its.exterior in
+      let own_other = other - its.exterior in
+      let following = least.first (InHole own place own_other) (in_hole_of_part parts its hole place other within wrong) in
+      subst (λ (n : ℕ). ComesFirst ((its.exterior + ring) ∷ vertex ∷ 505 ∷ 0 ∷ []) (n ∷ place ∷ 506 ∷ other ∷ [])) (sym (in_part its hole wrong.hole))
+      (shifted its.exterior ring vertex 505 0 own place 506 own_other 0 other (λ codes most. absurd (omega arith)) following);
 }
 
 -- so is the first inside another hole
@@ -236,17 +199,17 @@ pub in_hole_is_first : (parts : List (List Position)) (its : PolygonRings) (ring
     → IsFirstHole parts its ((its.exterior + ring) ∷ vertex ∷ 506 ∷ (its.exterior + another) ∷ [])
 in_hole_is_first parts its ring vertex another within least = record {
   outside = λ hole place wrong.
-      let own = hole_in_part its hole wrong.hole in
-      let following = least.first (Outside own.0 place) (outside_of_part parts its own.0 place within (subst (λ (n : ℕ). IsOutside parts its n place) own.1 wrong)) in
-      subst (λ (n : ℕ). ComesFirst ((its.exterior + ring) ∷ vertex ∷ 506 ∷ (its.exterior + another) ∷ []) (n ∷ place ∷ 505 ∷ 0 ∷ [])) (sym own.1)
-      (shifted its.exterior ring vertex 506 another own.0 place 505 0 (its.exterior + another) 0 (λ codes most. absurd (omega arith)) following);
+      let own = hole - its.exterior in
+      let following = least.first (Outside own place) (outside_of_part parts its hole place within wrong) in
+      subst (λ (n : ℕ). ComesFirst ((its.exterior + ring) ∷ vertex ∷ 506 ∷ (its.exterior + another) ∷ []) (n ∷ place ∷ 505 ∷ 0 ∷ [])) (sym (in_part its hole wrong.hole))
+      (shifted its.exterior ring vertex 506 another own place 505 0 (its.exterior + another) 0 (λ codes most. absurd (omega arith)) following);
   in_hole = λ hole place other wrong.
-      let own = own_other parts its hole place other wrong in
-      let at : IsInHole parts its (its.exterior + own.0) place (its.exterior + own.1) = subst (λ (n : ℕ). IsInHole parts its n place (its.exterior + own.1)) own.2 (subst (IsInHole parts its hole place) own.3 wrong) in
-      let following = least.first (InHole own.0 place own.1) (in_hole_of_part parts its own.0 place own.1 within at) in
-      let last : other ≡ its.exterior + own.1 = own.3 in
-      subst (λ (n : ℕ). ComesFirst ((its.exterior + ring) ∷ vertex ∷ 506 ∷ (its.exterior + another) ∷ []) (n ∷ place ∷ 506 ∷ other ∷ [])) (sym own.2)
-      (shifted its.exterior ring vertex 506 another own.0 place 506 own.1 (its.exterior + another) other (λ codes most. omega arith) following);
+      let own = hole - its.exterior in
+      let own_other = other - its.exterior in
+      let following = least.first (InHole own place own_other) (in_hole_of_part parts its hole place other within wrong) in
+      let last : other ≡ its.exterior + own_other = in_part its other wrong.other_hole in
+      subst (λ (n : ℕ). ComesFirst ((its.exterior + ring) ∷ vertex ∷ 506 ∷ (its.exterior + another) ∷ []) (n ∷ place ∷ 506 ∷ other ∷ [])) (sym (in_part its hole wrong.hole))
+      (shifted its.exterior ring vertex 506 another own place 506 own_other (its.exterior + another) other (λ codes most. omega arith) following);
 }
 
 -- with the numbers of the feature it is the first fault, where no edges meet wrongly

@@ -8,7 +8,7 @@ use Rattle.mvt_fault.specs.declared.profile.Profile.{Profile}
 use Rattle.mvt_rules.specs.Parts.Rings.{part_of}
 use Rattle.mvt_rules.specs.Polygon.{IsExterior, NoExterior, PolygonRings}
 use Rattle.mvt_plane.specs.Position.{Position}
-use Rattle.mvt_sweep.specs.Meeting.{NoMeeting}
+use Rattle.mvt_sweep.specs.Meeting.{NoMeeting, first_of, second_of}
 use Rattle.mvt_rules.specs.Ring.{ArePolygonRings}
 use Rattle.mvt_polygon.specs.InFeature.{IsMeetingIn}
 use Rattle.mvt_polygon.specs.Nesting.{IsNestFault}
@@ -16,7 +16,7 @@ use Rattle.mvt_sweep.specs.Rings.{rings_of}
 use Rattle.mvt_sweep.specs.declared.meeting.Meeting.{Meeting}
 use Rattle.mvt_polygon.specs.declared.nesting.NestFault.{NestFault}
 use Rattle.mvt_gate.proofs.PolygonFaults.{meeting_is_least}
-use Rattle.mvt_gate.proofs.PolygonParts.{apart_in_whole, enclosed_in_whole, first_edge, meeting_in_whole, second_edge}
+use Rattle.mvt_gate.proofs.PolygonParts.{apart_in_whole, enclosed_in_whole, meeting_in_whole}
 use Rattle.mvt_gate.proofs.PolygonWalk.{HasPassed, polygon_here, one_passed, all_passed}
 use Rattle.mvt_gate.specs.Calls.Polygons.{IsFirstOfRings, AreValidBefore, meeting_fault}
 use Rattle.mvt_gate.specs.declared.polygons.PolygonPlace.{PolygonPlace}
@@ -25,7 +25,7 @@ use Rattle.mvt_gate.specs.declared.polygons.PolygonPlace.{PolygonPlace}
 pub least_of_meeting : (profile : Profile) (parts : List (List Position)) (place : PolygonPlace) (its : PolygonRings) (found : Meeting) → its.after ≤ length parts → IsPolygonOf parts place.polygon its
     → AreValidBefore profile parts place.polygon → IsMeetingIn parts its found → IsFirstOfRings profile parts place.layer place.feature (meeting_fault place found)
 least_of_meeting profile parts place its found within of_it valid is =
-    meeting_is_least profile parts place.layer place.feature place.polygon (first_edge found) (second_edge found) found.point.x found.point.y found.point.w valid
+    meeting_is_least profile parts place.layer place.feature place.polygon (first_of found) (second_of found) found.point.x found.point.y found.point.w valid
     (meeting_in_whole profile parts place.polygon its found within of_it is)
 
 -- where nothing is found, the polygon is valid by itself

@@ -1,7 +1,6 @@
 -- What a quick verdict says of all faults that are true of bytes: it is the judge's own, but where edges of its feature meet.
 use Rattle.std.proofs.Common.{◌≡◌, ◌↔◌, ℕ, List, refl}
 use Rattle.mvt_rules.proofs.Validity.TrueFaults.{shown_is_invalid}
-use Rattle.mvt_rules.specs.PolygonFault.{number_of}
 use Rattle.mvt_rules.specs.Shows.{ShowsBy}
 use Rattle.mvt_rules.specs.Valid.{ValidBy}
 use Rattle.mvt_fault.specs.Place.{IsLeast}
@@ -28,7 +27,7 @@ quick_is_shown profile bytes fault quick = least_or_holds (IsFreeBy profile) (Sh
 -- no meeting is true of a feature of which no edges meet
 no_meeting_shown : (bytes : List ℕ) (fault : Fault) → ShowsBy Feature bytes fault → HasNoMeetingIn bytes (subject_of fault) → ¬ HasMeetingCode fault
 no_meeting_shown bytes (Meeting layer feature polygon first second x y w) shown apart is =
-    apart layer feature shown.0 shown.1 refl shown.2 shown.3.0 shown.3.1 (number_of first) (number_of second) (record { x = x; y = y; w = w }) shown.3.2.meets
+    apart layer feature shown.0 shown.1 refl shown.2 shown.3.0 shown.3.1 first second (record { x = x; y = y; w = w }) shown.3.2.meets
 no_meeting_shown bytes fault shown apart is = is
 
 -- so none may be named there

@@ -3,7 +3,6 @@
 //! polygon `check` may name any. And what a quick verdict and a list say of all faults.
 ghost use Rattle.std.specs.Prelude.{◌≡◌, ◌↔◌, ◌⊎◌, ◌++◌, ℕ, List, Some, slice_get, take};
 ghost use Rattle.mvt_rules.specs.Shows.{ShowsBy};
-ghost use Rattle.mvt_rules.specs.Valid.{ValidBy};
 ghost use Rattle.mvt_fault.specs.Place.{AreMeetingsInOne, ComesFirst, IsLeast, place_of};
 ghost use Rattle.mvt_fault.specs.declared.fault.Fault.{Fault};
 ghost use Rattle.mvt_fault.specs.declared.profile.Profile.{Profile};

@@ -1,6 +1,7 @@
 -- Positions near the edges of rings.
 use Rattle.std.specs.Prelude.{ℕ, List, ℤ, pos, neg_ℤ, ◌-ℤ◌, ◌*ℤ◌, ◌≤ℤ◌}
-use Rattle.mvt_rules.specs.Meeting.{EdgeNumber, IsEdgeOf}
+use Rattle.mvt_rules.specs.Meeting.{IsEdgeOf}
+use Rattle.mvt_fault.specs.declared.ring.RingEdge.{RingEdge}
 use Rattle.mvt_rules.specs.Nesting.{IsVertexOf}
 use Rattle.mvt_plane.specs.Geometry.RationalPoint.{RationalPoint, LiesOn}
 use Rattle.mvt_plane.specs.Position.{Position}
@@ -17,7 +18,7 @@ pub record IsCloseTo (position : Position) (point : RationalPoint) : Type 0 wher
 
 -- an edge of the rings has a point that is close to the position
 pub record IsNear (rings : List (List Position)) (position : Position) : Type 0 where
-  pub number : EdgeNumber
+  pub number : RingEdge
   pub edge : Edge
   pub there : IsEdgeOf rings number edge
   pub point : RationalPoint

@@ -4,16 +4,12 @@ use Rattle.std.specs.Prelude.{ℕ, List}
 use Rattle.mvt_rules.specs.Profiles.{IsInPolygonBy, IsKeptApart}
 use Rattle.mvt_fault.specs.declared.profile.Profile.{Profile}
 use Rattle.mvt_fault.specs.declared.ring.RingEdge.{RingEdge}
-use Rattle.mvt_rules.specs.Meeting.{EdgeNumber, ComesBefore, MeetsWrongly}
+use Rattle.mvt_rules.specs.Meeting.{ComesBefore, MeetsWrongly}
 use Rattle.mvt_rules.specs.Nesting.{IsOutside, IsInHole}
 use Rattle.mvt_rules.specs.Polygon.{PolygonRings, IsPolygon, IsRingOf}
 use Rattle.mvt_plane.specs.Position.{Position}
 use Rattle.mvt_plane.specs.Geometry.RationalPoint.{RationalPoint, IsBounded}
 use Rattle.mvt_rules.specs.Ring.{ArePolygonRings}
-
--- an edge's numbers
-abbrev pub number_of : RingEdge → EdgeNumber
-number_of edge = record { ring = edge.ring; edge = edge.edge }
 
 -- the polygon of this number in a feature, where no ring has a fault of its own
 pub record IsPolygonOf (rings : List (List Position)) (polygon : ℕ) (polygon_rings : PolygonRings) : Type 0 where
@@ -27,9 +23,9 @@ pub record IsMeetingBy (profile : Profile) (rings : List (List Position)) (polyg
   pub of : IsPolygonOf rings polygon polygon_rings
   pub first_in : IsKeptApart profile polygon_rings first.ring
   pub second_in : IsRingOf polygon_rings second.ring
-  pub in_order : ComesBefore (number_of first) (number_of second)
+  pub in_order : ComesBefore first second
   pub bounded : IsBounded point
-  pub meets : MeetsWrongly rings (number_of first) (number_of second) point
+  pub meets : MeetsWrongly rings first second point
 
 -- the vertex of a hole of the polygon isn't inside its exterior
 pub record IsVertexOutside (rings : List (List Position)) (polygon ring vertex : ℕ) : Type 0 where

@@ -1,5 +1,5 @@
 -- What keeps the rings of a feature from being those of polygons (Mapbox Vector Tile Specification 2.1, section 4.3.4.4).
-use Rattle.std.specs.Prelude.{◌≡◌, ℕ, ◌-◌, List, length, slice_get, Some, ℤ, pos, ◌<ℤ◌}
+use Rattle.std.specs.Prelude.{◌≡◌, ℕ, ◌-◌, List, length, slice_get, Some, pos, ◌<ℤ◌}
 use Rattle.mvt_plane.specs.Position.{Position}
 use Rattle.mvt_plane.specs.Geometry.Ring.{doubled_area}
 

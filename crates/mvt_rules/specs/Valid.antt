@@ -6,7 +6,8 @@ use Rattle.mvt_fault.specs.declared.profile.Profile.{Profile}
 use Rattle.mvt_fault.specs.declared.profile.Profile.TheVariants.{Polygon}
 use Rattle.mvt_fault.specs.declared.tag.TagCode.{TagCode}
 use Rattle.mvt_plane.specs.FeatureGeometry.{HasFigure, HasRings}
-use Rattle.mvt_rules.specs.Meeting.{EdgeNumber, MeetsWrongly}
+use Rattle.mvt_rules.specs.Meeting.{MeetsWrongly}
+use Rattle.mvt_fault.specs.declared.ring.RingEdge.{RingEdge}
 use Rattle.mvt_rules.specs.Nesting.{IsOutside, IsInHole}
 use Rattle.mvt_rules.specs.Polygon.{PolygonRings, IsPolygon, IsRingOf}
 use Rattle.mvt_plane.specs.Position.{Position}
@@ -16,7 +17,7 @@ use Rattle.mvt_rules.specs.Tile.{FeatureRecord, LayerRecord, TileRecord, IsTile}
 
 -- no edge of the polygon meets one that it is kept apart from wrongly
 abbrev pub AreApartBy : Profile → List (List Position) → PolygonRings → Type 0
-AreApartBy profile rings polygon_rings = (first second : EdgeNumber) (point : RationalPoint) → IsKeptApart profile polygon_rings first.ring → IsRingOf polygon_rings second.ring
+AreApartBy profile rings polygon_rings = (first second : RingEdge) (point : RationalPoint) → IsKeptApart profile polygon_rings first.ring → IsRingOf polygon_rings second.ring
     → ¬ MeetsWrongly rings first second point
 
 -- the rings of one polygon neither cross nor touch, and its holes are inside its exterior and not inside each other (section

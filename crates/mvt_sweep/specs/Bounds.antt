@@ -1,5 +1,5 @@
 -- The least and the greatest coordinates of rings.
-use Rattle.std.specs.Prelude.{◌≡◌, ℕ, ◌≤◌, List, slice_get, Some, ◌≤ℤ◌}
+use Rattle.std.specs.Prelude.{◌≡◌, ℕ, List, slice_get, Some, ◌≤ℤ◌}
 use Rattle.mvt_rules.specs.Polygon.{PolygonRings, IsRingOf}
 use Rattle.mvt_plane.specs.Position.{Position}
 use Rattle.mvt_sweep.specs.declared.bounds.Bounds.{Bounds}

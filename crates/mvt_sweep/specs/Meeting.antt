@@ -1,18 +1,19 @@
 -- The wrong meeting of two edges that is returned for rings (Mapbox Vector Tile Specification 2.1, section 4.3.4.4).
 use Rattle.std.specs.Prelude.{◌≡◌, ◌↔◌, List, Option, Some}
 use Rattle.mvt_plane.specs.Geometry.CommonPoint.{IsNamed}
-use Rattle.mvt_rules.specs.Meeting.{EdgeNumber, ComesBefore, IsEdgeOf, IsShared, MeetsWrongly}
+use Rattle.mvt_rules.specs.Meeting.{ComesBefore, IsEdgeOf, IsShared, MeetsWrongly}
+use Rattle.mvt_fault.specs.declared.ring.RingEdge.{RingEdge}
 use Rattle.mvt_plane.specs.Position.{Position}
 use Rattle.mvt_plane.specs.Geometry.RationalPoint.{RationalPoint, IsBounded}
 use Rattle.mvt_plane.specs.declared.geometry.edge.Edge.{Edge}
 use Rattle.mvt_sweep.specs.declared.meeting.Meeting.{Meeting}
 
 -- the numbers of the first edge
-abbrev pub first_of : Meeting → EdgeNumber
+abbrev pub first_of : Meeting → RingEdge
 first_of meeting = record { ring = meeting.first_ring; edge = meeting.first_edge }
 
 -- the numbers of the second edge
-abbrev pub second_of : Meeting → EdgeNumber
+abbrev pub second_of : Meeting → RingEdge
 second_of meeting = record { ring = meeting.second_ring; edge = meeting.second_edge }
 
 -- Two edges, in order, meet wrongly at this point. Of the points that they have in common, other than the vertex that
@@ -31,4 +32,4 @@ pub record IsMeetingOf (rings : List (List Position)) (meeting : Meeting) : Type
 
 -- no two edges of the rings meet wrongly
 abbrev pub NoMeeting : List (List Position) → Type 0
-NoMeeting rings = (first second : EdgeNumber) (point : RationalPoint) → ¬ MeetsWrongly rings first second point
+NoMeeting rings = (first second : RingEdge) (point : RationalPoint) → ¬ MeetsWrongly rings first second point

@@ -1,15 +1,16 @@
 //! Edges that meet wrongly.
-ghost use Rattle.std.specs.Prelude.{◌≡◌, ◌*◌, ◌<◌, IfOk, IfNone, IfSome, None, Some, [], length};
-ghost use Rattle.mvt_sweep.specs.Work.{IsCounted, vertex_count};
+ghost use Rattle.std.specs.Prelude.{◌≡◌, ◌*◌, ◌<◌, IfOk, IfNone, IfSome, [], length};
+ghost use Rattle.mvt_plane.specs.Counted.{ticked};
+ghost use Rattle.mvt_sweep.specs.Work.{AddsWork, IsCounted, vertex_count};
 ghost use Rattle.mvt_sweep.specs.SweepWork.{AddsSweep, AddsTurns};
-ghost use Rattle.mvt_sweep.specs.Calls.SweepVertices.{AreSweepVertices, IsNumbered, IsNamedMeeting};
+ghost use Rattle.mvt_sweep.specs.Calls.SweepVertices.{AreSweepVertices, IsNumbered, plan_of, sweep_count};
+ghost use Rattle.mvt_sweep.specs.Calls.Sweep.{Tested};
 ghost use Rattle.mvt_sweep.specs.Meeting.{IsMeetingOf, NoMeeting};
 ghost use Rattle.mvt_sweep.specs.Rings.{rings_of, AreProperRings};
 
 use crate::pairs::{Pairs, find_pairs, meeting_among};
 use crate::sweep::{
-    FEW_VERTICES, FewVertices, NamedPair, NoNotes, SweepVertices, Swept, list_few, list_of,
-    sweep_over,
+    FEW_VERTICES, FewVertices, NoNotes, Pair, SweepVertices, Swept, list_few, list_of, sweep_over,
 };
 use mvt_plane::{Count, Hpoint, Point};
 use mvt_status::{Status, TreeStatus};
@@ -137,20 +138,28 @@ pub fn self_intersection(
     let vertices = SweepVertices::new(&list);
     let mut pairs = Pairs::new();
     if find_pairs(&vertices, &mut pairs, count) {
-        return Ok(named_meeting(rings, meeting_among(&vertices, &pairs, count)));
+        return Ok(meeting_among(rings, &vertices, &pairs, count));
     }
     find_meeting(alloc, rings, count)
 }
 
-/// The meeting that was found, if any, with its edges named by ring and ordinal.
-pub(crate) fn named_meeting(rings: &[Vec<Point>], found: Option<NamedPair>) -> Option<Meeting>
-    requires first { IfSome found (λ pair. pair.first < vertex_count (rings_of rings.now)) }
-    requires second { IfSome found (λ pair. pair.second < vertex_count (rings_of rings.now)) }
-    ensures none { IfNone result (found ≡ None) }
-    ensures some { IfSome result (λ meeting. (pair : NamedPair) × (found ≡ Some pair)
-        × IsNamedMeeting (rings_of rings.now) pair meeting) }
+/// The wrong meeting of two edges, if they have one, as one of the rings: one test.
+pub(crate) fn meeting_of_pair(
+    rings: &[Vec<Point>],
+    vertices: &SweepVertices,
+    pair: Pair,
+    count: &mut Count,
+) -> Option<Meeting>
+    requires rings { AreProperRings (rings_of rings.now) }
+    requires vertices { AreSweepVertices (rings_of rings.now) vertices.now }
+    requires in_order { pair.first < pair.second }
+    requires known { pair.second < sweep_count vertices.now }
+    ensures none { IfNone result (Tested (plan_of vertices.now) pair.first pair.second) }
+    ensures some { IfSome result (IsMeetingOf (rings_of rings.now)) }
+    ensures counted { AddsWork 1 0 0 count.old count.new }
+    ensures tested { count.new.tests ≡ ticked count.old.tests }
 {
-    let pair = found?;
+    let point = vertices.point_in_order(pair.first, pair.second, count)?;
     let (first_ring, first_edge) = ring_and_ordinal(rings, pair.first);
     let (second_ring, second_edge) = ring_and_ordinal(rings, pair.second);
     Some(Meeting {
@@ -158,7 +167,7 @@ pub(crate) fn named_meeting(rings: &[Vec<Point>], found: Option<NamedPair>) -> O
         first_edge,
         second_ring,
         second_edge,
-        point: pair.point,
+        point,
     })
 }
 

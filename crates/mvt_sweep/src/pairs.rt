@@ -3,14 +3,17 @@
 ghost use Rattle.std.specs.Prelude.{◌≡◌, ◌*◌, ◌<◌, ◌≤◌, IfNone, IfSome, IsTrue, false, [], length};
 ghost use Rattle.mvt_sweep.specs.Work.{AddsWork, IsCounted};
 ghost use Rattle.mvt_sweep.specs.Calls.Pairs.{AreEndsWithin, AreEdgeBounds, AreEnough, AreEnoughForAll, pairs_of};
-ghost use Rattle.mvt_sweep.specs.Calls.SweepVertices.{IsNamedPair, NoneWrong, sweep_count, edge_at, plan_of};
+ghost use Rattle.mvt_sweep.specs.Calls.SweepVertices.{AreSweepVertices, sweep_count, edge_at, plan_of};
 ghost use Rattle.mvt_sweep.specs.Calls.Sweep.{Tested};
+ghost use Rattle.mvt_sweep.specs.Meeting.{IsMeetingOf, NoMeeting};
+ghost use Rattle.mvt_sweep.specs.Rings.{rings_of, AreProperRings};
 ghost use Rattle.mvt_status.specs.Counts.{raised};
 
 use crate::bounds::Bounds;
-use crate::sweep::{FEW_VERTICES, NamedPair, SweepVertices};
+use crate::meeting::{Meeting, meeting_of_pair};
+use crate::sweep::{FEW_VERTICES, Pair, SweepVertices};
 use arrayvec::ArrayVec;
-use mvt_plane::{Count, orient};
+use mvt_plane::{Count, Point, orient};
 
 /// Three pairs for each of `FEW_VERTICES` edges.
 const MOST_PAIRS: usize = 48;
@@ -113,24 +116,31 @@ fn may_meet(
     }
 }
 
-/// The first wrong meeting of edges of which these pairs are to be tested. Makes one test for each
-/// pair, up to the one that it answers.
+/// The first wrong meeting of edges of which these pairs are to be tested, as one of the rings.
+/// Makes one test for each pair, up to the one that it answers.
 pub(crate) fn meeting_among(
+    rings: &[Vec<Point>],
     vertices: &SweepVertices,
     pairs: &[(u8, u8)],
     count: &mut Count,
-) -> Option<NamedPair>
+) -> Option<Meeting>
+    requires rings { AreProperRings (rings_of rings.now) }
+    requires vertices { AreSweepVertices (rings_of rings.now) vertices.now }
     requires pairs { AreEnoughForAll vertices.now pairs.now }
-    ensures none { IfNone result (NoneWrong vertices.now) }
-    ensures some { IfSome result (IsNamedPair vertices.now) }
+    ensures none { IfNone result (NoMeeting (rings_of rings.now)) }
+    ensures some { IfSome result (IsMeetingOf (rings_of rings.now)) }
     ensures counted { AddsWork (length pairs.now) 0 0 count.old count.new }
     ensures least { IsCounted 0 count.old count.new result }
     ensures tested { IfNone result (raised (length pairs.now) count.old.tests ≤ count.new.tests) }
 {
     for at in 0..pairs.len() {
         let (first, second) = pairs[at];
-        if let Some(pair) = vertices.named_in_order(first as usize, second as usize, count) {
-            return Some(pair);
+        let pair = Pair {
+            first: first as usize,
+            second: second as usize,
+        };
+        if let Some(meeting) = meeting_of_pair(rings, vertices, pair, count) {
+            return Some(meeting);
         }
     }
     None

@@ -29,7 +29,6 @@ mod vertices;
 use crate::sweep::chains::Chains;
 use crate::sweep::notes::Notes;
 use crate::sweep::step::{Step, go_over};
-use crate::sweep::vertices::Pair;
 pub(crate) use heights::heights_apart;
 pub(crate) use listing::{FEW_VERTICES, FewVertices, list_few, list_of};
 use mvt_plane::Count;
@@ -39,7 +38,7 @@ pub use notes::RingNotes;
 use std::alloc::{AllocError, Global};
 pub(crate) use swept::sweep_over;
 pub use swept::{Swept, sweep_rings};
-pub(crate) use vertices::{NamedPair, SweepVertices};
+pub(crate) use vertices::{Pair, SweepVertices};
 
 /// Goes over all vertices in their order, with notes of each. No two of them are at one position,
 /// and the status is empty at the call. The only error is that memory was refused.

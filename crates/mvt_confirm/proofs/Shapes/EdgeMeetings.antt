@@ -3,7 +3,7 @@ use Rattle.std.proofs.Common.{◌≡◌, ◌≢◌, ◌↔◌, ℕ, Bool, IsTrue
 use Rattle.std.proofs.lemmas.Bool.Decides.{nat_tests}
 use Rattle.std.proofs.lemmas.Option.{same_Some}
 use Rattle.mvt_fault.specs.declared.ring.RingEdge.{RingEdge}
-use Rattle.mvt_rules.specs.Meeting.{EdgeNumber, IsEdgeOf, IsShared, Follows, forward, backward, MeetsWrongly}
+use Rattle.mvt_rules.specs.Meeting.{IsEdgeOf, IsShared, Follows, forward, backward, MeetsWrongly}
 use Rattle.mvt_plane.specs.Position.{Position}
 use Rattle.mvt_plane.specs.Geometry.RationalPoint.{RationalPoint, LiesOn, IsAt, IsBounded}
 use Rattle.mvt_plane.specs.Geometry.Ring.{next_round}
@@ -11,7 +11,6 @@ use Rattle.mvt_plane.specs.declared.geometry.edge.Edge.{Edge}
 use Rattle.mvt_plane.proofs.Rings.RingEdges.{ends_of_edge}
 use Rattle.mvt_rules.proofs.Rings.EdgePairs.{one_edge}
 use Rattle.mvt_confirm.specs.Calls.EdgeTests.{AreEdgesOf, IsApartAfter}
-use Rattle.mvt_rules.specs.PolygonFault.{number_of}
 use Rattle.mvt_confirm.specs.declared.edge_tests.NumberedEdge.{NumberedEdge}
 
 -- what is tested of two edges
@@ -25,14 +24,10 @@ pub record AreApartAt (first second : NumberedEdge) (vertex_count : ℕ) (point 
 -- ---- edges by their numbers
 
 -- an edge begins at the vertex of its number
-begins_at : (rings : List (List Position)) (number : EdgeNumber) (it : Edge) (ring : List Position) → IsEdgeOf rings number it → slice_get rings number.ring ≡ Some ring → slice_get ring number.edge ≡ Some it.a
+begins_at : (rings : List (List Position)) (number : RingEdge) (it : Edge) (ring : List Position) → IsEdgeOf rings number it → slice_get rings number.ring ≡ Some ring → slice_get ring number.edge ≡ Some it.a
 begins_at rings number it ring is there =
     let same : is.ring ≡ ring = same_Some is.ring ring (sym is.there ∙ there) in
     ap (λ (vertices : List Position). slice_get vertices number.edge) (sym same) ∙ (ends_of_edge is.ring number.edge it is.here).0
-
--- numbers of one ring and one edge are the same
-same_number : (first second : RingEdge) → number_of first ≡ number_of second → first ≡ second
-same_number first second same = ap (λ (number : EdgeNumber). let it : RingEdge = record { ring = number.ring; edge = number.edge } in it) same
 
 -- the two edges the other way round
 edges_back : (rings : List (List Position)) (first second : NumberedEdge) (vertex_count : ℕ) → AreEdgesOf rings first second vertex_count → AreEdgesOf rings second first vertex_count
@@ -63,10 +58,10 @@ found_same found first second same = (there, back)
 
 -- a vertex between them is where the second edge begins, which has the next number
 between_is_beginning : (rings : List (List Position)) (first second : NumberedEdge) (vertex_count : ℕ) (point : RationalPoint) (vertex : Position) → AreEdgesOf rings first second vertex_count
-    → IsApartAfter first second vertex_count point → Follows rings (number_of first.number) (number_of second.number) vertex → ¬ IsAt point vertex
+    → IsApartAfter first second vertex_count point → Follows rings first.number second.number vertex → ¬ IsAt point vertex
 between_is_beginning rings first second vertex_count point vertex are apart follows at =
     let there = ap (slice_get rings) follows.same ∙ follows.there in
-    let begins = begins_at rings (number_of second.number) second.edge follows.ring are.other there in
+    let begins = begins_at rings second.number second.edge follows.ring are.other there in
     let same : vertex ≡ second.edge.a = same_Some vertex second.edge.a (sym follows.between ∙ begins) in
     let next = follows.next ∙ ap (λ (count : ℕ). next_round count first.number.edge) (are.count follows.ring follows.same follows.there) in
     apart follows.same next (subst (IsAt point) same at)
@@ -74,7 +69,7 @@ between_is_beginning rings first second vertex_count point vertex are apart foll
 -- and where the numbers are such, that is between them
 beginning_is_between : (rings : List (List Position)) (first second : NumberedEdge) (vertex_count : ℕ) → AreEdgesOf rings first second vertex_count
     → second.number.ring ≡ first.number.ring → second.number.edge ≡ next_round vertex_count first.number.edge
-    → Follows rings (number_of first.number) (number_of second.number) second.edge.a
+    → Follows rings first.number second.number second.edge.a
 beginning_is_between rings first second vertex_count are same next =
     let ring = are.one.ring in
     let there = are.one.there in
@@ -83,16 +78,16 @@ beginning_is_between rings first second vertex_count are same next =
       there = there;
       same = same;
       next = next ∙ ap (λ (count : ℕ). next_round count first.number.edge) (sym (are.count ring same there));
-      between = begins_at rings (number_of second.number) second.edge ring are.other (ap (slice_get rings) same ∙ there);
+      between = begins_at rings second.number second.edge ring are.other (ap (slice_get rings) same ∙ there);
     }
 
 -- ---- what the tests decide
 
 -- two edges meet wrongly where the tests say so
 meets_by_tests : (rings : List (List Position)) (first second : NumberedEdge) (vertex_count : ℕ) (point : RationalPoint) → AreEdgesOf rings first second vertex_count
-    → AreApartAt first second vertex_count point → MeetsWrongly rings (number_of first.number) (number_of second.number) point
+    → AreApartAt first second vertex_count point → MeetsWrongly rings first.number second.number point
 meets_by_tests rings first second vertex_count point are tests = record {
-  different = λ same. tests.different (same_number first.number second.number same);
+  different = tests.different;
   one = first.edge;
   one_there = are.one;
   other = second.edge;
@@ -102,24 +97,24 @@ meets_by_tests rings first second vertex_count point are tests = record {
   forbidden = forbidden;
 }
   where
-    forbidden : (vertex : Position) → IsShared rings (number_of first.number) (number_of second.number) vertex → ¬ IsAt point vertex
+    forbidden : (vertex : Position) → IsShared rings first.number second.number vertex → ¬ IsAt point vertex
     forbidden vertex (forward follows) = between_is_beginning rings first second vertex_count point vertex are tests.after_first follows
     forbidden vertex (backward follows) =
         between_is_beginning rings second first vertex_count point vertex (edges_back rings first second vertex_count are) tests.after_second follows
 
 -- and only there
 tests_by_meeting : (rings : List (List Position)) (first second : NumberedEdge) (vertex_count : ℕ) (point : RationalPoint) → AreEdgesOf rings first second vertex_count
-    → MeetsWrongly rings (number_of first.number) (number_of second.number) point → AreApartAt first second vertex_count point
+    → MeetsWrongly rings first.number second.number point → AreApartAt first second vertex_count point
 tests_by_meeting rings first second vertex_count point are meets = record {
-  different = λ same. meets.different (ap number_of same);
-  on_first = subst (LiesOn point) (one_edge rings (number_of first.number) meets.one first.edge meets.one_there are.one) meets.on_one;
-  on_second = subst (LiesOn point) (one_edge rings (number_of second.number) meets.other second.edge meets.other_there are.other) meets.on_other;
+  different = meets.different;
+  on_first = subst (LiesOn point) (one_edge rings first.number meets.one first.edge meets.one_there are.one) meets.on_one;
+  on_second = subst (LiesOn point) (one_edge rings second.number meets.other second.edge meets.other_there are.other) meets.on_other;
   after_first = λ same next. meets.forbidden second.edge.a (forward (beginning_is_between rings first second vertex_count are same next));
   after_second = λ same next. meets.forbidden first.edge.a (backward (beginning_is_between rings second first vertex_count (edges_back rings first second vertex_count are) same next));
 }
 
 -- in order and at a point that is in range
-pub meeting_in_order : {Found Ordered : Type 0} (rings : List (List Position)) (first second : EdgeNumber) (made point : RationalPoint) → made ≡ point → Ordered → IsBounded point
+pub meeting_in_order : {Found Ordered : Type 0} (rings : List (List Position)) (first second : RingEdge) (made point : RationalPoint) → made ≡ point → Ordered → IsBounded point
     → Found ↔ MeetsWrongly rings first second made → Found ↔ (Ordered × IsBounded point × MeetsWrongly rings first second point)
 meeting_in_order {Found} {Ordered} rings first second made point same ordered bounded meets =
     let moved = subst (λ (at : RationalPoint). Found ↔ MeetsWrongly rings first second at) same meets in
@@ -127,6 +122,6 @@ meeting_in_order {Found} {Ordered} rings first second made point same ordered bo
 
 -- a test that decides this decides where the edges meet wrongly
 pub meeting_by_tests : {Found : Type 0} (rings : List (List Position)) (first second : NumberedEdge) (vertex_count : ℕ) (point : RationalPoint) → AreEdgesOf rings first second vertex_count
-    → Found ↔ AreApartAt first second vertex_count point → Found ↔ MeetsWrongly rings (number_of first.number) (number_of second.number) point
+    → Found ↔ AreApartAt first second vertex_count point → Found ↔ MeetsWrongly rings first.number second.number point
 meeting_by_tests {Found} rings first second vertex_count point are found =
     (λ it. meets_by_tests rings first second vertex_count point are (found.0 it), λ meets. found.1 (tests_by_meeting rings first second vertex_count point are meets))

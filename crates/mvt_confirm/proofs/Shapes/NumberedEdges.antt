@@ -2,7 +2,7 @@
 use Rattle.std.proofs.Common.{◌≡◌, ◌↔◌, ◌≤◌, ℕ, List, length, slice_get, Some, sym, ◌∙◌, ap, subst, arith}
 use Rattle.std.proofs.lemmas.Option.{same_Some, slice_get_within}
 use Rattle.mvt_fault.specs.declared.ring.RingEdge.{RingEdge}
-use Rattle.mvt_rules.specs.Meeting.{EdgeNumber, ComesBefore, IsEdgeOf, MeetsWrongly}
+use Rattle.mvt_rules.specs.Meeting.{ComesBefore, IsEdgeOf, MeetsWrongly}
 use Rattle.mvt_rules.specs.Nesting.{IsVertexOf}
 use Rattle.mvt_plane.specs.Position.{Position}
 use Rattle.mvt_plane.specs.Geometry.RationalPoint.{RationalPoint, IsBounded}
@@ -10,7 +10,6 @@ use Rattle.mvt_plane.specs.Geometry.Ring.{edges}
 use Rattle.mvt_plane.specs.declared.geometry.edge.Edge.{Edge}
 use Rattle.mvt_plane.proofs.Rings.RingEdges.{count_of_edges, ends_of_edge}
 use Rattle.mvt_confirm.specs.Calls.EdgeTests.{AreEdgesOf}
-use Rattle.mvt_rules.specs.PolygonFault.{number_of}
 use Rattle.mvt_confirm.specs.declared.edge_tests.NumberedEdge.{NumberedEdge}
 
 -- ---- where there is none
@@ -20,7 +19,7 @@ pub too_few_rings : (rings : List (List Position)) (ring : ℕ) (vertices : List
 too_few_rings rings ring vertices few there = let within = slice_get_within rings ring vertices there in omega arith
 
 -- an edge of a ring that has too few
-pub too_few_edges : (rings : List (List Position)) (number : EdgeNumber) (ring : List Position) (edge : Edge) → slice_get rings number.ring ≡ Some ring → length (edges ring) ≤ number.edge
+pub too_few_edges : (rings : List (List Position)) (number : RingEdge) (ring : List Position) (edge : Edge) → slice_get rings number.ring ≡ Some ring → length (edges ring) ≤ number.edge
     → ¬ IsEdgeOf rings number edge
 too_few_edges rings number ring edge there few is =
     let same : is.ring ≡ ring = same_Some is.ring ring (sym is.there ∙ there) in
@@ -56,12 +55,12 @@ counted_by_edges rings number vertices ring count there its is =
 
 -- they come in order, and meet wrongly at a point that is in range
 abbrev MeetsInOrder : List (List Position) → RingEdge → RingEdge → RationalPoint → Type 0
-MeetsInOrder rings first second point = ComesBefore (number_of first) (number_of second) × IsBounded point × MeetsWrongly rings (number_of first) (number_of second) point
+MeetsInOrder rings first second point = ComesBefore first second × IsBounded point × MeetsWrongly rings first second point
 
 -- a test of two edges that exist, with the number of vertices of the first one's ring, decides whether they meet wrongly
 abbrev IsTold : Type 0 → List (List Position) → NumberedEdge → NumberedEdge → ℕ → RationalPoint → RingEdge → RingEdge → Type 0
 IsTold Found rings one other count point first second =
-    IsEdgeOf rings (number_of first) one.edge → IsEdgeOf rings (number_of second) other.edge → ((ring : List Position) → slice_get rings first.ring ≡ Some ring → length ring ≡ count)
+    IsEdgeOf rings first one.edge → IsEdgeOf rings second other.edge → ((ring : List Position) → slice_get rings first.ring ≡ Some ring → length ring ≡ count)
     → Found ↔ MeetsInOrder rings first second point
 
 -- it decides so for the numbers by which the edges were found

@@ -11,7 +11,7 @@ use Rattle.mvt_plane.specs.Geometry.RationalPoint.{RationalPoint, IsBounded}
 use Rattle.mvt_rules.specs.Ring.{ArePolygonRings}
 use Rattle.mvt_rules.proofs.Rings.PolygonNumbers.{exterior_within}
 use Rattle.mvt_rules.proofs.Rings.SamePolygons.{one_polygon, same_polygon}
-use Rattle.mvt_rules.specs.PolygonFault.{number_of, IsMeetingBy}
+use Rattle.mvt_rules.specs.PolygonFault.{IsMeetingBy}
 use Rattle.mvt_rules.specs.Profiles.{IsKeptApart}
 use Rattle.mvt_confirm.specs.Calls.Polygons.{IsPlaceOf}
 use Rattle.mvt_confirm.specs.declared.polygons.RingPlace.{RingPlace}
@@ -102,8 +102,8 @@ no_member rings polygon ring few member = let within = within_rings rings polygo
 
 -- meet where the second one's is of the polygon, from which the profile keeps the first one's, and the edges meet
 pub meeting_by_parts : {Met : Type 0} (profile : Profile) (rings : List (List Position)) (polygon : ℕ) (first second : RingEdge) (point : RationalPoint) → ArePolygonRings rings
-    → (member : IsMember rings polygon second.ring) → (ComesBefore (number_of first) (number_of second) → IsKeptApart profile member.0 first.ring)
-    → Met ↔ (ComesBefore (number_of first) (number_of second) × IsBounded point × MeetsWrongly rings (number_of first) (number_of second) point)
+    → (member : IsMember rings polygon second.ring) → (ComesBefore first second → IsKeptApart profile member.0 first.ring)
+    → Met ↔ (ComesBefore first second × IsBounded point × MeetsWrongly rings first second point)
     → Met ↔ IsMeetingBy profile rings polygon first second point
 meeting_by_parts {Met} profile rings polygon first second point sound member kept met = (
   λ it. let all = met.0 it in record {

@@ -1,7 +1,6 @@
 -- Edges with their numbers, and tests of edges that come one after another (Mapbox Vector Tile Specification 2.1,
 -- section 4.3.4.4).
 use Rattle.std.specs.Prelude.{◌≡◌, ◌↔◌, ℕ, IsTrue, List, length, slice_get, Some}
-use Rattle.mvt_rules.specs.PolygonFault.{number_of}
 use Rattle.mvt_confirm.specs.declared.crossings.Crossings.{Crossings}
 use Rattle.mvt_confirm.specs.declared.edge_tests.NumberedEdge.{NumberedEdge}
 use Rattle.mvt_plane.specs.Geometry.Inside.{PassesOver, HoldsOfOdd}
@@ -13,8 +12,8 @@ use Rattle.mvt_plane.specs.declared.geometry.edge.Edge.{Edge}
 
 -- the two are edges of these rings by their numbers, and where they are in one ring, it has this number of vertices
 pub record AreEdgesOf (rings : List (List Position)) (first second : NumberedEdge) (vertex_count : ℕ) : Type 0 where
-  pub one : IsEdgeOf rings (number_of first.number) first.edge
-  pub other : IsEdgeOf rings (number_of second.number) second.edge
+  pub one : IsEdgeOf rings first.number first.edge
+  pub other : IsEdgeOf rings second.number second.edge
   pub count : (ring : List Position) → second.number.ring ≡ first.number.ring → slice_get rings first.number.ring ≡ Some ring → length ring ≡ vertex_count
 
 -- where the second edge follows the first in their ring, the point isn't the vertex between them

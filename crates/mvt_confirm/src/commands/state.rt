@@ -4,7 +4,6 @@ ghost use Rattle.std.specs.Prelude.{◌≡◌, ◌↔◌, ◌-◌, ◌%◌, ◌/
 ghost use Rattle.mvt_confirm.specs.Calls.Commands.{Faults, Goes, IsCommandOf, IsNoCommand, IsStay, before_x, plane_type, plane_leg, plane_state};
 ghost use Rattle.mvt_plane.specs.Commands.Drawing as plane;
 ghost use Rattle.mvt_plane.specs.Commands.Drawing.{GoesElsewhere, MayEnd, following, after_path, least, points_command, path_command, line_command, close_command, step_x, step_y};
-ghost use Rattle.mvt_plane.specs.Commands.Figure.{command_integer};
 ghost use Rattle.mvt_plane.specs.Commands.Figure as figures;
 ghost use Rattle.mvt_plane.specs.FeatureGeometry.{type_number};
 

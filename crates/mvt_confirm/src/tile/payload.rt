@@ -1,8 +1,7 @@
 //! Whether payloads fit the rule for their field's number (Mapbox Vector Tile Specification 2.1,
 //! section 4).
-ghost use Rattle.std.specs.Prelude.{◌≡◌, ◌↔◌, ℕ, ◌<◌, ◌≤◌, List, length, IsTrue, IsUtf8, IfSome, IfNone};
+ghost use Rattle.std.specs.Prelude.{◌≡◌, ◌↔◌, ◌<◌, ◌≤◌, length, IsTrue, IsUtf8, IfSome, IfNone};
 ghost use Rattle.mvt_wire.specs.Field.{content_of};
-ghost use Rattle.mvt_wire.specs.Number.{VarintList, AreSmall};
 ghost use Rattle.mvt_rules.specs.Tile.{Fits};
 ghost use Rattle.mvt_wire.specs.declared.schema.Shape.TheVariants as shapes;
 ghost use Rattle.mvt_confirm.specs.Calls.Walking.{AreSmallFrom, IsContentInRange};

@@ -1,6 +1,6 @@
 //! The faults in a packed list of numbers of 32 bits (Protocol Buffers encoding, "Packed Repeated
 //! Fields").
-ghost use Rattle.std.specs.Prelude.{◌≡◌, ◌≤◌, ◌↔◌, length, IsTrue};
+ghost use Rattle.std.specs.Prelude.{◌≤◌, ◌↔◌, length, IsTrue};
 ghost use Rattle.mvt_wire.specs.Number.{PackedFault};
 ghost use Rattle.mvt_confirm.specs.Calls.Packed.{IsBadAt};
 

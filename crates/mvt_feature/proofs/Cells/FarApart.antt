@@ -4,7 +4,8 @@ use Rattle.std.proofs.Common.{◌≡◌, ℕ, List, slice_get, Some}
 use Rattle.mvt_plane.proofs.Rings.RingEdges.{ends_of_edge}
 use Rattle.mvt_plane.specs.Geometry.Apart.{HaveNothingInCommon}
 use Rattle.mvt_plane.specs.Geometry.Inside.{IsInside}
-use Rattle.mvt_rules.specs.Meeting.{EdgeNumber, IsEdgeOf, MeetsWrongly}
+use Rattle.mvt_rules.specs.Meeting.{IsEdgeOf, MeetsWrongly}
+use Rattle.mvt_fault.specs.declared.ring.RingEdge.{RingEdge}
 use Rattle.mvt_rules.specs.Nesting.{IsVertexOf}
 use Rattle.mvt_rules.specs.Polygon.{PolygonRings, IsRingOf}
 use Rattle.mvt_plane.specs.Position.{Position}
@@ -30,7 +31,7 @@ far_rings ring other far = λ number another one two point here its_here on_one.
 -- Polygons
 
 -- the ends of the edge of this number are within a polygon's bounds
-ends_within : (rings : List (List Position)) (it : PolygonRings) (bounds : Bounds) (number : EdgeNumber) (edge : Edge) → AreBoundsOfPolygon rings it bounds → IsRingOf it number.ring → IsEdgeOf rings number edge → AreEndsWithin bounds edge
+ends_within : (rings : List (List Position)) (it : PolygonRings) (bounds : Bounds) (number : RingEdge) (edge : Edge) → AreBoundsOfPolygon rings it bounds → IsRingOf it number.ring → IsEdgeOf rings number edge → AreEndsWithin bounds edge
 ends_within rings it bounds number edge are of_it there =
     let ends = ends_of_edge there.ring number.edge edge there.here in
     record { begin = are number.ring there.ring of_it there.there _ edge.a ends.0; end = are number.ring there.ring of_it there.there _ edge.b ends.1 }
@@ -46,7 +47,7 @@ far_back rings it its far = record {
 }
 
 -- no edges of theirs meet
-pub far_edges : (rings : List (List Position)) (it its : PolygonRings) (first second : EdgeNumber) (point : RationalPoint) → AreFarApart rings it its → IsRingOf it first.ring → IsRingOf its second.ring → ¬ MeetsWrongly rings first second point
+pub far_edges : (rings : List (List Position)) (it its : PolygonRings) (first second : RingEdge) (point : RationalPoint) → AreFarApart rings it its → IsRingOf it first.ring → IsRingOf its second.ring → ¬ MeetsWrongly rings first second point
 far_edges rings it its first second point far of_it of_its meets =
     let one = ends_within rings it far.one first meets.one far.of_one of_it meets.one_there in
     let other = ends_within rings its far.other second meets.other far.of_other of_its meets.other_there in

@@ -5,7 +5,8 @@ use Rattle.std.proofs.lemmas.Bool.{cases_lt, cases_order}
 use Rattle.std.proofs.lemmas.Option.{same_Some}
 use Rattle.mvt_plane.specs.Geometry.Apart.{HaveNothingInCommon}
 use Rattle.mvt_plane.specs.Geometry.Inside.{IsInside, IsPointInside}
-use Rattle.mvt_rules.specs.Meeting.{EdgeNumber, MeetsWrongly}
+use Rattle.mvt_rules.specs.Meeting.{MeetsWrongly}
+use Rattle.mvt_fault.specs.declared.ring.RingEdge.{RingEdge}
 use Rattle.mvt_rules.specs.Nesting.{IsInPolygon}
 use Rattle.mvt_rules.specs.Parts.Rings.{part_of}
 use Rattle.mvt_rules.specs.Polygon.{PolygonRings, IsRingOf}
@@ -90,7 +91,7 @@ module _ (rings : List (List Position)) (it its : PolygonRings) (island : IsIsla
         ]
 
     -- no edges of the two meet
-    pub island_edges : (first second : EdgeNumber) (point : RationalPoint) → IsRingOf it first.ring → IsRingOf its second.ring → ¬ MeetsWrongly rings first second point
+    pub island_edges : (first second : RingEdge) (point : RationalPoint) → IsRingOf it first.ring → IsRingOf its second.ring → ¬ MeetsWrongly rings first second point
     island_edges first second point of_it of_its meets =
         let from = of_it.from in
         let before = of_it.before in
@@ -114,7 +115,7 @@ module _ (rings : List (List Position)) (it its : PolygonRings) (island : IsIsla
 
 module _ (rings : List (List Position)) (it its : PolygonRings) where
   -- no edges of theirs meet, where no edges of either one do
-  pub edges_by_hole : AreApartByHole rings it its → NoMeeting (part_of rings it) → NoMeeting (part_of rings its) → (first second : EdgeNumber) (point : RationalPoint) → IsRingOf it first.ring → IsRingOf its second.ring
+  pub edges_by_hole : AreApartByHole rings it its → NoMeeting (part_of rings it) → NoMeeting (part_of rings its) → (first second : RingEdge) (point : RationalPoint) → IsRingOf it first.ring → IsRingOf its second.ring
       → ¬ MeetsWrongly rings first second point
   edges_by_hole (inl island) none its_none first second point of_it of_its = island_edges rings it its island its_none first second point of_it of_its
   edges_by_hole (inr island) none its_none first second point of_it of_its = λ meets. island_edges rings its it island none second first point of_its of_it (meets_either_way rings first second point meets)

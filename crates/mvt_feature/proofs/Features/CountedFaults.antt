@@ -1,5 +1,5 @@
 -- What is counted at least where a fault of a feature is found.
-use Rattle.std.proofs.Common.{◌≡◌, ℕ, ◌-◌, ◌<◌, ◌≤◌, ltb, Bool, true, false, cond, List, drop, take, Option, Some, None, option_map, IfOk, IfSome, Result, Ok, Err, sym, ap, subst, arith, zero, suc, [], ◌∷◌}
+use Rattle.std.proofs.Common.{◌≡◌, ℕ, ◌-◌, ◌<◌, ◌≤◌, ltb, Bool, true, false, cond, List, drop, take, Option, Some, None, option_map, IfNone, IfOk, IfSome, Result, Ok, Err, sym, ap, subst, arith, zero, suc, [], ◌∷◌}
 use Rattle.std.specs.Option.{option_or}
 use Rattle.mvt_plane.specs.Counted.{Counted, ticked}
 use Rattle.mvt_rules.specs.Parts.Rings.{part_of}
@@ -8,7 +8,7 @@ use Rattle.mvt_plane.specs.Position.{Position}
 use Rattle.mvt_feature.specs.Calls.Alone.{earlier_of, own_fault}
 use Rattle.mvt_feature.specs.Calls.FeatureParts.{fault_after, IsFirstLater, IsFirstMisplaced, IsMisplacedBy}
 use Rattle.mvt_feature.specs.Calls.Gathered.{cause_moved, fault_moved}
-use Rattle.mvt_feature.specs.Feature.{IsCountedCause, IsCountedFault, rings_in}
+use Rattle.mvt_feature.specs.Feature.{AddsSweeps, IsCountedAnswer, IsCountedCause, IsCountedFault, rings_in}
 use Rattle.mvt_polygon.specs.PolygonFault.{meeting_in}
 use Rattle.mvt_sweep.specs.Work.{IsCounted, vertex_count}
 use Rattle.mvt_feature.specs.declared.feature.FeatureCause.{FeatureCause}
@@ -21,7 +21,7 @@ use Rattle.mvt_status.specs.Counts.{raised}
 use Rattle.mvt_feature.proofs.Features.FirstFaults.{part_in_first}
 use Rattle.mvt_feature.proofs.Features.FirstPolygons.{AreFirst}
 use Rattle.mvt_feature.proofs.Features.FirstRings.{begins_among_first, ends_in_first, polygon_of_first}
-use Rattle.mvt_feature.proofs.Features.SweepsAdded.{fewer_vertices}
+use Rattle.mvt_feature.proofs.Features.SweepsAdded.{fewer_vertices, sweeps_then}
 use Rattle.mvt_sweep.proofs.Vertices.VertexNumbers.{count_cons}
 
 -- More counts
@@ -114,10 +114,22 @@ module _ (rings : List (List Position)) (count ring_count : ℕ) (are : AreFirst
       subst (IsCountedCause (vertex_count (part_of rings it)) before after) (sym is.cause) (omega (arith, few, swept))
 
 -- where all were swept over, any polygon that is misplaced
-pub counted_in_all : (rings : List (List Position)) (before after : Counted) (found : Option FeatureFault) → raised (vertex_count rings) before.probes ≤ after.probes → IfSome found (IsFirstMisplaced rings) → IfSome found (IsCountedFault rings before after)
+counted_in_all : (rings : List (List Position)) (before after : Counted) (found : Option FeatureFault) → raised (vertex_count rings) before.probes ≤ after.probes → IfSome found (IsFirstMisplaced rings) → IfSome found (IsCountedFault rings before after)
 counted_in_all rings before after None swept is = tt
 counted_in_all rings before after (Some fault) swept is =
     counted_misplaced rings fault.polygon (rings_in fault) (vertex_count (part_of rings (rings_in fault))) (vertex_count rings) fault.cause before after (fewer_in_part rings (rings_in fault)) is.is swept
+
+-- by a sweep over all that finds no meeting, and a search for such a polygon
+pub counted_where_clear : {E : Type 0} (rings : List (List Position)) (before between after : Counted) (result : Result (Option FeatureFault) E) → AddsSweeps 1 (vertex_count rings) before between
+    → raised (vertex_count rings) before.probes ≤ between.probes → between.probes ≤ after.probes
+    → IfOk result (λ found. IfNone found (AddsSweeps 0 (vertex_count rings) between after)) → IfOk result (λ found. IfSome found (IsFirstMisplaced rings)) → IfOk result (IsCountedAnswer rings before after)
+counted_where_clear rings before between after (Ok None) swept least more none first = record {
+  valid = sweeps_then 1 0 1 (vertex_count rings) before between after (omega arith) swept none;
+  least = omega arith;
+  found = tt;
+}
+counted_where_clear rings before between after (Ok (Some fault)) swept least more none first = record { valid = tt; least = tt; found = counted_in_all rings before after (Some fault) (omega arith) first }
+counted_where_clear rings before between after (Err error) swept least more none first = tt
 
 -- the polygon after the front
 pub counted_after : (rings : List (List Position)) (polygons : List (ℕ × ℕ)) (count : ℕ) (meeting : Option MeetingOf) (before after : Counted) → IfSome meeting (λ _. ticked before.tests ≤ after.tests) → IfSome (option_map (fault_after polygons count) meeting) (IsCountedFault rings before after)

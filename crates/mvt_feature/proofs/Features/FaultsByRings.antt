@@ -67,11 +67,11 @@ pub whole_part : (rings : List (List Position)) (it : PolygonRings) → it.after
 whole_part rings it ends = ap (λ (count : ℕ). record { exterior = 0; after = count }) (count_of_part rings it ends)
 
 -- the number of a hole in the part
-in_part : (it : PolygonRings) (hole : ℕ) → IsHoleOf it hole → hole ≡ it.exterior + (hole - it.exterior)
+pub in_part : (it : PolygonRings) (hole : ℕ) → IsHoleOf it hole → hole ≡ it.exterior + (hole - it.exterior)
 in_part it hole is = let following = is.following in omega arith
 
 -- a vertex outside is a fault of the part
-outside_of_part : (rings : List (List Position)) (it : PolygonRings) (hole vertex : ℕ) → it.after ≤ length rings → IsOutside rings it hole vertex
+pub outside_of_part : (rings : List (List Position)) (it : PolygonRings) (hole vertex : ℕ) → it.after ≤ length rings → IsOutside rings it hole vertex
     → IsNestFault (part_of rings it) (Outside (hole - it.exterior) vertex)
 outside_of_part rings it hole vertex ends wrong =
     let own = hole - it.exterior in
@@ -79,7 +79,7 @@ outside_of_part rings it hole vertex ends wrong =
     outside own vertex (subst (λ (its : PolygonRings). IsOutside (part_of rings it) its own vertex) (sym (whole_part rings it ends)) ((outside_in_part rings it own vertex).1 at))
 
 -- so is one in another hole
-in_hole_of_part : (rings : List (List Position)) (it : PolygonRings) (hole vertex other : ℕ) → it.after ≤ length rings → IsInHole rings it hole vertex other
+pub in_hole_of_part : (rings : List (List Position)) (it : PolygonRings) (hole vertex other : ℕ) → it.after ≤ length rings → IsInHole rings it hole vertex other
     → IsNestFault (part_of rings it) (InHole (hole - it.exterior) vertex (other - it.exterior))
 in_hole_of_part rings it hole vertex other ends wrong =
     let own = hole - it.exterior in

@@ -1,7 +1,8 @@
 -- The polygons of a feature that are marked, and those that aren't: edges of theirs that meet, and vertices inside them.
 use Rattle.std.proofs.Common.{◌≡◌, ◌≢◌, ℕ, suc, ◌+◌, ◌-◌, ◌<◌, ◌≤◌, ◌⊎◌, inl, inr, Bool, true, false, List, length, slice_get, slice_index, Some, sym, ◌∙◌, ap, subst, arith}
 use Rattle.std.proofs.lemmas.Bool.{cases_lt, cases_order}
-use Rattle.mvt_rules.specs.Meeting.{EdgeNumber, MeetsWrongly}
+use Rattle.mvt_rules.specs.Meeting.{MeetsWrongly}
+use Rattle.mvt_fault.specs.declared.ring.RingEdge.{RingEdge}
 use Rattle.mvt_rules.specs.Nesting.{IsInsidePolygon, IsInPolygon}
 use Rattle.mvt_rules.specs.Parts.Rings.{part_of}
 use Rattle.mvt_rules.specs.Polygon.{PolygonRings, IsRingOf, IsHoleOf}
@@ -26,11 +27,11 @@ use Rattle.mvt_feature.proofs.Placed.PolygonOrder.{of_list, in_turn, home_of}
 use Rattle.mvt_feature.proofs.Features.RingCopies.{ring_within, meets_there, meets_back, part_copies, front_copies, count_of_front}
 
 -- an edge's number by that of its ring
-abbrev numbered : ℕ → ℕ → EdgeNumber
+abbrev numbered : ℕ → ℕ → RingEdge
 numbered edge ring = record { ring = ring; edge = edge }
 
 -- edges that meet, at other numbers of their rings
-meets_at : (rings : List (List Position)) (first second : EdgeNumber) (point : RationalPoint) (ring other : ℕ) → ring ≡ first.ring → other ≡ second.ring → MeetsWrongly rings first second point
+meets_at : (rings : List (List Position)) (first second : RingEdge) (point : RationalPoint) (ring other : ℕ) → ring ≡ first.ring → other ≡ second.ring → MeetsWrongly rings first second point
     → MeetsWrongly rings (record { ring = ring; edge = first.edge }) (record { ring = other; edge = second.edge }) point
 meets_at rings first second point ring other same other_same meets =
     subst (λ (number : ℕ). MeetsWrongly rings (numbered first.edge ring) (numbered second.edge number) point) (sym other_same)
@@ -90,7 +91,7 @@ module _ (rings : List (List Position)) (polygons : List (ℕ × ℕ)) (marks : 
   -- Edges
 
   -- edges of two marked polygons don't meet, where no edges of the gathered ones meet
-  none_together : (last : ℕ) (first second : EdgeNumber) (point : RationalPoint) (polygon other : ℕ) → last < length polygons → IsMarked marks last → NoMeeting (part_of own_parts (front_of (block_of polygons marks last)))
+  none_together : (last : ℕ) (first second : RingEdge) (point : RationalPoint) (polygon other : ℕ) → last < length polygons → IsMarked marks last → NoMeeting (part_of own_parts (front_of (block_of polygons marks last)))
       → polygon ≤ last → other ≤ last → IsMarked marks polygon → IsMarked marks other → IsRingOf (listed_at polygons polygon) first.ring → IsRingOf (listed_at polygons other) second.ring → ¬ MeetsWrongly rings first second point
   none_together last first second point polygon other within last_marked none up other_up marked other_marked of_it of_its meets =
       let block = block_of polygons marks last in
@@ -108,7 +109,7 @@ module _ (rings : List (List Position)) (polygons : List (ℕ × ℕ)) (marks : 
       (meets_back (part_of own_parts (front_of block)) own_parts (λ (ring : ℕ). ring) (front_copies own_parts block fits) (record { ring = one.at; edge = first.edge }) (record { ring = another.at; edge = second.edge }) point (omega arith) (omega arith) gathered)
 
   -- edges of one polygon don't meet, where no edges of its part do
-  none_of_own : (polygon : ℕ) (first second : EdgeNumber) (point : RationalPoint) → polygon < length polygons → NoMeeting (part_of rings (listed_at polygons polygon))
+  none_of_own : (polygon : ℕ) (first second : RingEdge) (point : RationalPoint) → polygon < length polygons → NoMeeting (part_of rings (listed_at polygons polygon))
       → IsRingOf (listed_at polygons polygon) first.ring → IsRingOf (listed_at polygons polygon) second.ring → ¬ MeetsWrongly rings first second point
   none_of_own polygon first second point within none of_it of_its meets =
       let it = listed_at polygons polygon in
@@ -151,7 +152,7 @@ module _ (rings : List (List Position)) (polygons : List (ℕ × ℕ)) (marks : 
   AreFrontsApart to = (polygon : ℕ) → polygon < to → IsMarked marks polygon → NoMeeting (part_of own_parts (front_of (block_of polygons marks polygon)))
 
   -- so edges of two polygons don't meet
-  none_of_marked : (to : ℕ) (first second : EdgeNumber) (point : RationalPoint) (polygon other : ℕ) → to ≤ length polygons → AreFrontsApart to → polygon < to → other < to → IsMarked marks polygon → IsMarked marks other
+  none_of_marked : (to : ℕ) (first second : RingEdge) (point : RationalPoint) (polygon other : ℕ) → to ≤ length polygons → AreFrontsApart to → polygon < to → other < to → IsMarked marks polygon → IsMarked marks other
       → IsRingOf (listed_at polygons polygon) first.ring → IsRingOf (listed_at polygons other) second.ring → ¬ MeetsWrongly rings first second point
   none_of_marked to first second point polygon other within none before other_before marked other_marked of_it of_its = elim (cases_lt polygon other) [
     | inl less ↦ none_together other first second point polygon other (omega arith) other_marked (none other other_before other_marked) (omega arith) (omega arith) marked other_marked of_it of_its
@@ -159,7 +160,7 @@ module _ (rings : List (List Position)) (polygons : List (ℕ × ℕ)) (marks : 
   ]
 
   -- nor do those of two polygons of which one isn't marked
-  none_of_two : (to : ℕ) (first second : EdgeNumber) (point : RationalPoint) (polygon other : ℕ) → to ≤ length polygons → AreOwnApart to → polygon < to → other < to → IsUnmarked marks polygon ⊎ IsUnmarked marks other
+  none_of_two : (to : ℕ) (first second : RingEdge) (point : RationalPoint) (polygon other : ℕ) → to ≤ length polygons → AreOwnApart to → polygon < to → other < to → IsUnmarked marks polygon ⊎ IsUnmarked marks other
       → IsRingOf (listed_at polygons polygon) first.ring → IsRingOf (listed_at polygons other) second.ring → ¬ MeetsWrongly rings first second point
   none_of_two to first second point polygon other within own before other_before unmarked of_it of_its = elim (cases_order polygon other) [
     | inl same ↦
@@ -176,7 +177,7 @@ module _ (rings : List (List Position)) (polygons : List (ℕ × ℕ)) (marks : 
   ]
 
   -- so none of any two do
-  none_of_any : (to : ℕ) (first second : EdgeNumber) (point : RationalPoint) (polygon other : ℕ) → to ≤ length polygons → AreOwnApart to → AreFrontsApart to → polygon < to → other < to
+  none_of_any : (to : ℕ) (first second : RingEdge) (point : RationalPoint) (polygon other : ℕ) → to ≤ length polygons → AreOwnApart to → AreFrontsApart to → polygon < to → other < to
       → IsRingOf (listed_at polygons polygon) first.ring → IsRingOf (listed_at polygons other) second.ring → ¬ MeetsWrongly rings first second point
   none_of_any to first second point polygon other within own none before other_before of_it of_its = elim (marked_or_not marks polygon) [
     | inr unmarked ↦ none_of_two to first second point polygon other within own before other_before (inl unmarked) of_it of_its

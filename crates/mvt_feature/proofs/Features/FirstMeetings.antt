@@ -1,9 +1,11 @@
 -- Wrong meetings of edges of the first rings of a feature.
-use Rattle.std.proofs.Common.{◌≡◌, ℕ, ◌-◌, ◌<◌, ◌≤◌, inl, inr, List, length, slice_get, take, Vec, sym, ◌∙◌, ap, subst, arith}
+use Rattle.std.proofs.Common.{◌≡◌, ℕ, ◌-◌, ◌<◌, ◌≤◌, List, length, slice_get, take, Vec, sym, ◌∙◌, ap, subst, arith}
 use Rattle.std.proofs.lemmas.List.{take-map}
 use Rattle.std.proofs.lemmas.Option.{slice_get_within}
 use Rattle.std.specs.declared.alloc.Global.{Global}
-use Rattle.mvt_rules.specs.Meeting.{EdgeNumber, ComesBefore, Follows, IsEdgeOf, IsShared, forward, backward, MeetsWrongly}
+use Rattle.mvt_rules.specs.Meeting.{Follows, IsEdgeOf, IsShared, forward, backward, MeetsWrongly}
+use Rattle.mvt_fault.specs.declared.ring.RingEdge.{RingEdge}
+use Rattle.mvt_rules.proofs.Validity.UnshownMeetings.{rings_in_order}
 use Rattle.mvt_rules.specs.Parts.Rings.{part_of}
 use Rattle.mvt_rules.specs.Polygon.{PolygonRings}
 use Rattle.mvt_plane.specs.Position.{Position}
@@ -22,16 +24,16 @@ abbrev pub AreSame : List (List Position) → List (List Position) → ℕ → T
 AreSame rings others bound = (ring : ℕ) → ring < bound → slice_get others ring ≡ slice_get rings ring
 
 -- an edge of them
-edge_there : (rings others : List (List Position)) (bound : ℕ) (number : EdgeNumber) (edge : Edge) → AreSame rings others bound → number.ring < bound → IsEdgeOf rings number edge → IsEdgeOf others number edge
+edge_there : (rings others : List (List Position)) (bound : ℕ) (number : RingEdge) (edge : Edge) → AreSame rings others bound → number.ring < bound → IsEdgeOf rings number edge → IsEdgeOf others number edge
 edge_there rings others bound number edge same within there = record { ring = there.ring; there = same number.ring within ∙ there.there; here = there.here }
 
 -- an edge that follows another
-follows_there : (rings others : List (List Position)) (bound : ℕ) (first second : EdgeNumber) (vertex : Position) → AreSame rings others bound → first.ring < bound → Follows rings first second vertex → Follows others first second vertex
+follows_there : (rings others : List (List Position)) (bound : ℕ) (first second : RingEdge) (vertex : Position) → AreSame rings others bound → first.ring < bound → Follows rings first second vertex → Follows others first second vertex
 follows_there rings others bound first second vertex same within follows =
     record { ring = follows.ring; there = same first.ring within ∙ follows.there; same = follows.same; next = follows.next; between = follows.between }
 
 -- the vertex that neighbours share
-shared_there : (rings others : List (List Position)) (bound : ℕ) (first second : EdgeNumber) (vertex : Position) → AreSame rings others bound → first.ring < bound → second.ring < bound → IsShared rings first second vertex → IsShared others first second vertex
+shared_there : (rings others : List (List Position)) (bound : ℕ) (first second : RingEdge) (vertex : Position) → AreSame rings others bound → first.ring < bound → second.ring < bound → IsShared rings first second vertex → IsShared others first second vertex
 shared_there rings others bound first second vertex same first_within second_within (forward follows) = forward (follows_there rings others bound first second vertex same first_within follows)
 shared_there rings others bound first second vertex same first_within second_within (backward follows) = backward (follows_there rings others bound second first vertex same second_within follows)
 
@@ -40,7 +42,7 @@ back : (rings others : List (List Position)) (bound : ℕ) → AreSame rings oth
 back rings others bound same ring within = sym (same ring within)
 
 -- a wrong meeting
-pub meets_there : (rings others : List (List Position)) (bound : ℕ) (first second : EdgeNumber) (point : RationalPoint) → AreSame rings others bound → first.ring < bound → second.ring < bound → MeetsWrongly rings first second point → MeetsWrongly others first second point
+pub meets_there : (rings others : List (List Position)) (bound : ℕ) (first second : RingEdge) (point : RationalPoint) → AreSame rings others bound → first.ring < bound → second.ring < bound → MeetsWrongly rings first second point → MeetsWrongly others first second point
 meets_there rings others bound first second point same first_within second_within meets = record {
   different = meets.different;
   one = meets.one;
@@ -51,11 +53,6 @@ meets_there rings others bound first second point same first_within second_withi
   on_other = meets.on_other;
   forbidden = λ vertex shared. meets.forbidden vertex (shared_there others rings bound first second vertex (back rings others bound same) first_within second_within shared);
 }
-
--- edges in order are of rings in order
-pub rings_in_order : (first second : EdgeNumber) → ComesBefore first second → first.ring ≤ second.ring
-rings_in_order first second (inl before) = omega arith
-rings_in_order first second (inr within) = let same = within.0 in omega arith
 
 -- the meeting that is reported
 pub meeting_there : (rings others : List (List Position)) (bound : ℕ) (meeting : Meeting) → AreSame rings others bound → meeting.second_ring < bound → IsMeetingOf rings meeting → IsMeetingOf others meeting

@@ -6,7 +6,7 @@ use Rattle.mvt_rules.specs.Polygon.{IsPolygon}
 use Rattle.mvt_plane.specs.Position.{Position}
 use Rattle.mvt_feature.specs.Calls.Alone.{IsAloneAnswer, earlier_of, vertices_alone}
 use Rattle.mvt_sweep.specs.Work.{vertex_count}
-use Rattle.mvt_feature.specs.Feature.{AddsSweeps, AreAtMost, IsCountedFault, IsFeatureAnswer, rings_in}
+use Rattle.mvt_feature.specs.Feature.{AddsSweeps, AreAtMost, IsCountedAnswer, IsCountedFault, IsFeatureAnswer, rings_in}
 use Rattle.mvt_feature.specs.Calls.FeatureParts.{listed_at}
 use Rattle.mvt_feature.specs.Calls.Gathered.{gathered_rings, gathered_places, gathered_numbers, fault_moved, IsFaultWithin}
 use Rattle.mvt_feature.specs.Calls.Islands.{AreMarked}
@@ -28,7 +28,7 @@ use Rattle.mvt_feature.proofs.Features.SweepShares.{raised_then, shares, sweeps_
 -- Two faults
 
 -- where neither is found, what holds of both
-pub both_none : (One Other Both : Type 0) (one : Option FeatureFault) (found : Option FeatureFault) (f : FeatureFault → FeatureFault) (result : Option FeatureFault) → result ≡ earlier_of one (option_map f found)
+both_none : (One Other Both : Type 0) (one : Option FeatureFault) (found : Option FeatureFault) (f : FeatureFault → FeatureFault) (result : Option FeatureFault) → result ≡ earlier_of one (option_map f found)
     → IfNone one One → IfNone found Other → (One → Other → Both) → IfNone result Both
 both_none One Other Both one found f result is own its both = subst (λ (answer : Option FeatureFault). IfNone answer Both) (sym is) (cases one found own its)
   where
@@ -40,7 +40,7 @@ both_none One Other Both one found f result is own its both = subst (λ (answer 
     cases None None own its = both own its
 
 -- what always holds
-pub if_none : (Holds : Type 0) (found : Option FeatureFault) → Holds → IfNone found Holds
+if_none : (Holds : Type 0) (found : Option FeatureFault) → Holds → IfNone found Holds
 if_none Holds (Some fault) holds = tt
 if_none Holds None holds = holds
 
@@ -113,7 +113,7 @@ module _ (rings : List (List Position)) (polygons : List (ℕ × ℕ)) (marks : 
         both_sweeps 2 before between after (omega arith) first (second (none_of_gathered none))
 
     -- the least work of both
-    pub both_least : (before between after : Counted) → raised (vertices_alone rings polygons marks (length polygons)) before.probes ≤ between.probes → raised (vertex_count all) between.probes ≤ after.probes
+    both_least : (before between after : Counted) → raised (vertices_alone rings polygons marks (length polygons)) before.probes ≤ between.probes → raised (vertex_count all) between.probes ≤ after.probes
         → raised (vertex_count rings) before.probes ≤ after.probes
     both_least before between after first second =
         let sum = all_shares in
@@ -143,13 +143,30 @@ module _ (rings : List (List Position)) (polygons : List (ℕ × ℕ)) (marks : 
           (counted_moved rings all polygons its_places its_numbers between after found (all_parts found is) shared))
 
       -- what both count where a fault is found
-      pub both_found : (sweeps : ℕ) (one found moved result : Option FeatureFault) (before between after : Counted) → IsQuickAnswer all found → moved ≡ option_map (fault_moved polygons its_places its_numbers) found → result ≡ earlier_of one moved
+      both_found : (sweeps : ℕ) (one found moved result : Option FeatureFault) (before between after : Counted) → IsQuickAnswer all found → moved ≡ option_map (fault_moved polygons its_places its_numbers) found → result ≡ earlier_of one moved
           → AddsSweeps 1 (vertices_alone rings polygons marks (length polygons)) before between → AddsSweeps sweeps (vertex_count all) between after
           → IfSome one (IsCountedFault rings before between) → IfSome found (IsCountedFault all between after) → IfSome result (IsCountedFault rings before after)
       both_found sweeps one found moved result before between after is moved_is result_is first more own shared =
           subst (λ (answer : Option FeatureFault). IfSome answer (IsCountedFault rings before after)) (sym result_is)
           (counted_earlier rings one moved before after (counted_to rings one before between after more.no_fewer_tests more.no_fewer_probes own)
           (moved_found found moved before between after is moved_is first shared))
+
+      -- what both count by their answer
+      pub both_counted_by_answer : (sweeps : ℕ) (one found moved result : Option FeatureFault) (before between after : Counted) → IsQuickAnswer all found → moved ≡ option_map (fault_moved polygons its_places its_numbers) found → result ≡ earlier_of one moved
+          → AddsSweeps 1 (vertices_alone rings polygons marks (length polygons)) before between → AddsSweeps sweeps (vertex_count all) between after
+          → IfNone one (raised (vertices_alone rings polygons marks (length polygons)) before.probes ≤ between.probes) → IfSome one (IsCountedFault rings before between)
+          → IsCountedAnswer all between after found → IsCountedAnswer rings before after result
+      both_counted_by_answer sweeps one found moved result before between after is moved_is result_is first more least own shared =
+          let alone = vertices_alone rings polygons marks (length polygons) in
+          let f = fault_moved polygons its_places its_numbers in
+          let of_both = result_is ∙ ap (earlier_of one) moved_is in
+          record {
+            valid = both_none (AddsSweeps 1 alone before between) (AddsSweeps 1 (vertex_count all) between after) (AddsSweeps 1 (vertex_count rings) before after) one found f result of_both
+                (if_none (AddsSweeps 1 alone before between) one first) shared.valid (both_sweeps 1 before between after (omega arith));
+            least = both_none (raised alone before.probes ≤ between.probes) (raised (vertex_count all) between.probes ≤ after.probes) (raised (vertex_count rings) before.probes ≤ after.probes) one found f result of_both
+                least shared.least (both_least before between after);
+            found = both_found sweeps one found moved result before between after is moved_is result_is first more own shared.found;
+          }
 
       -- the answer for all
       pub both_answer : (one found moved result : Option FeatureFault) → IsAloneAnswer rings polygons marks one → IsFeatureAnswer all found → moved ≡ option_map (fault_moved polygons its_places its_numbers) found
@@ -192,14 +209,21 @@ one_vertices rings polygons able listed one =
     let none : vertex_count (gathered_rings rings polygons not_marked (length polygons)) ≡ 0 = ap (λ (n : ℕ). vertex_count (gathered_rings rings polygons not_marked n)) one in
     omega (arith, shares rings polygons not_marked able listed)
 
+-- what is counted of it is counted of the feature
+pub one_counted_by_answer : {E : Type 0} (rings : List (List Position)) (polygons : List (ℕ × ℕ)) (before after : Counted) (result : Result (Option FeatureFault) E) → ArePolygonRings rings → ArePolygons rings polygons → length polygons ≡ 1
+    → AddsSweeps 1 (vertices_alone rings polygons (false ∷ []) (length polygons)) before after
+    → IfOk result (λ found. IfNone found (raised (vertices_alone rings polygons (false ∷ []) (length polygons)) before.probes ≤ after.probes))
+    → IfOk result (λ found. IfSome found (IsCountedFault rings before after)) → IfOk result (IsCountedAnswer rings before after)
+one_counted_by_answer rings polygons before after (Ok found) able listed one swept least counted = record {
+  valid = if_none (AddsSweeps 1 (vertex_count rings) before after) found (alone_sweeps rings polygons not_marked able listed 1 before after (omega arith) swept);
+  least = subst (λ (vertices : ℕ). IfNone found (raised vertices before.probes ≤ after.probes)) (one_vertices rings polygons able listed one) least;
+  found = counted;
+}
+one_counted_by_answer rings polygons before after (Err error) able listed one swept least counted = tt
+
 -- Results
 
 -- what follows of an answer
 pub if_ok : {A E : Type 0} (result : Result A E) (P Q : A → Type 0) → ((answer : A) → P answer → Q answer) → IfOk result P → IfOk result Q
 if_ok (Ok answer) P Q follows holds = follows answer holds
 if_ok (Err error) P Q follows holds = tt
-
--- what always holds
-pub if_ok_none : {E : Type 0} (result : Result (Option FeatureFault) E) (Holds : Type 0) → Holds → IfOk result (λ found. IfNone found Holds)
-if_ok_none (Ok found) Holds holds = if_none Holds found holds
-if_ok_none (Err error) Holds holds = tt

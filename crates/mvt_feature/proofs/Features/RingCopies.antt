@@ -3,7 +3,8 @@ use Rattle.std.proofs.Common.{◌≡◌, ℕ, ◌+◌, ◌<◌, ◌≤◌, inl, 
 use Rattle.std.proofs.lemmas.Bool.{cases_order}
 use Rattle.std.proofs.lemmas.Option.{slice_get_within}
 use Rattle.mvt_rules.proofs.Rings.PartsOfRings.{ring_of_part, count_of_part}
-use Rattle.mvt_rules.specs.Meeting.{EdgeNumber, ComesBefore, IsEdgeOf, Follows, IsShared, forward, backward, MeetsWrongly}
+use Rattle.mvt_rules.specs.Meeting.{ComesBefore, IsEdgeOf, Follows, IsShared, forward, backward, MeetsWrongly}
+use Rattle.mvt_fault.specs.declared.ring.RingEdge.{RingEdge}
 use Rattle.mvt_rules.specs.Parts.Rings.{part_of}
 use Rattle.mvt_rules.specs.Polygon.{PolygonRings}
 use Rattle.mvt_plane.specs.Position.{Position}
@@ -20,12 +21,12 @@ pub record AreCopies (parts rings : List (List Position)) (place : ℕ → ℕ) 
   pub in_order : (ring other : ℕ) → ring < other → other < length parts → place ring < place other
 
 -- the number of an edge at the place of its ring
-abbrev pub edge_moved : (ℕ → ℕ) → EdgeNumber → EdgeNumber
+abbrev pub edge_moved : (ℕ → ℕ) → RingEdge → RingEdge
 edge_moved place number = record { ring = place number.ring; edge = number.edge }
 
 module _ (parts rings : List (List Position)) (place : ℕ → ℕ) (copies : AreCopies parts rings place) where
   -- an edge's ring is one of the rings
-  pub ring_within : (number : EdgeNumber) (edge : Edge) → IsEdgeOf parts number edge → number.ring < length parts
+  pub ring_within : (number : RingEdge) (edge : Edge) → IsEdgeOf parts number edge → number.ring < length parts
   ring_within number edge there = slice_get_within parts number.ring there.ring there.there
 
   -- two rings of one place are one
@@ -39,7 +40,7 @@ module _ (parts rings : List (List Position)) (place : ℕ → ℕ) (copies : Ar
   ]
 
   -- an edge
-  edge_there : (number : EdgeNumber) (edge : Edge) → IsEdgeOf parts number edge → IsEdgeOf rings (edge_moved place number) edge
+  edge_there : (number : RingEdge) (edge : Edge) → IsEdgeOf parts number edge → IsEdgeOf rings (edge_moved place number) edge
   edge_there number edge there = record {
     ring = there.ring;
     there = sym (copies.same number.ring (ring_within number edge there)) ∙ there.there;
@@ -47,11 +48,11 @@ module _ (parts rings : List (List Position)) (place : ℕ → ℕ) (copies : Ar
   }
 
   -- and back
-  edge_back : (number : EdgeNumber) (edge : Edge) → number.ring < length parts → IsEdgeOf rings (edge_moved place number) edge → IsEdgeOf parts number edge
+  edge_back : (number : RingEdge) (edge : Edge) → number.ring < length parts → IsEdgeOf rings (edge_moved place number) edge → IsEdgeOf parts number edge
   edge_back number edge within there = record { ring = there.ring; there = copies.same number.ring within ∙ there.there; here = there.here }
 
   -- one that follows another
-  follows_there : (first second : EdgeNumber) (vertex : Position) → first.ring < length parts → Follows parts first second vertex → Follows rings (edge_moved place first) (edge_moved place second) vertex
+  follows_there : (first second : RingEdge) (vertex : Position) → first.ring < length parts → Follows parts first second vertex → Follows rings (edge_moved place first) (edge_moved place second) vertex
   follows_there first second vertex within follows = record {
     ring = follows.ring;
     there = sym (copies.same first.ring within) ∙ follows.there;
@@ -61,7 +62,7 @@ module _ (parts rings : List (List Position)) (place : ℕ → ℕ) (copies : Ar
   }
 
   -- and back
-  follows_back : (first second : EdgeNumber) (vertex : Position) → first.ring < length parts → second.ring < length parts → Follows rings (edge_moved place first) (edge_moved place second) vertex → Follows parts first second vertex
+  follows_back : (first second : RingEdge) (vertex : Position) → first.ring < length parts → second.ring < length parts → Follows rings (edge_moved place first) (edge_moved place second) vertex → Follows parts first second vertex
   follows_back first second vertex within second_within follows = record {
     ring = follows.ring;
     there = copies.same first.ring within ∙ follows.there;
@@ -71,24 +72,24 @@ module _ (parts rings : List (List Position)) (place : ℕ → ℕ) (copies : Ar
   }
 
   -- neighbours
-  shared_there : (first second : EdgeNumber) (vertex : Position) → first.ring < length parts → second.ring < length parts → IsShared parts first second vertex → IsShared rings (edge_moved place first) (edge_moved place second) vertex
+  shared_there : (first second : RingEdge) (vertex : Position) → first.ring < length parts → second.ring < length parts → IsShared parts first second vertex → IsShared rings (edge_moved place first) (edge_moved place second) vertex
   shared_there first second vertex within second_within (forward follows) = forward (follows_there first second vertex within follows)
   shared_there first second vertex within second_within (backward follows) = backward (follows_there second first vertex second_within follows)
 
   -- and back
-  shared_back : (first second : EdgeNumber) (vertex : Position) → first.ring < length parts → second.ring < length parts → IsShared rings (edge_moved place first) (edge_moved place second) vertex → IsShared parts first second vertex
+  shared_back : (first second : RingEdge) (vertex : Position) → first.ring < length parts → second.ring < length parts → IsShared rings (edge_moved place first) (edge_moved place second) vertex → IsShared parts first second vertex
   shared_back first second vertex within second_within (forward follows) = forward (follows_back first second vertex within second_within follows)
   shared_back first second vertex within second_within (backward follows) = backward (follows_back second first vertex second_within within follows)
 
   -- numbers that are one at their places
-  one_number : (first second : EdgeNumber) → first.ring < length parts → second.ring < length parts → edge_moved place first ≡ edge_moved place second → first ≡ second
+  one_number : (first second : RingEdge) → first.ring < length parts → second.ring < length parts → edge_moved place first ≡ edge_moved place second → first ≡ second
   one_number first second within second_within same =
-      let ring : first.ring ≡ second.ring = one_ring first.ring second.ring within second_within (ap (λ (number : EdgeNumber). number.ring) same) in
-      let edge : first.edge ≡ second.edge = ap (λ (number : EdgeNumber). number.edge) same in
+      let ring : first.ring ≡ second.ring = one_ring first.ring second.ring within second_within (ap (λ (number : RingEdge). number.ring) same) in
+      let edge : first.edge ≡ second.edge = ap (λ (number : RingEdge). number.edge) same in
       λ i. record { ring = ring i; edge = edge i }
 
   -- a wrong meeting
-  pub meets_there : (first second : EdgeNumber) (point : RationalPoint) → MeetsWrongly parts first second point → MeetsWrongly rings (edge_moved place first) (edge_moved place second) point
+  pub meets_there : (first second : RingEdge) (point : RationalPoint) → MeetsWrongly parts first second point → MeetsWrongly rings (edge_moved place first) (edge_moved place second) point
   meets_there first second point meets =
       let within = ring_within first meets.one meets.one_there in
       let second_within = ring_within second meets.other meets.other_there in
@@ -104,7 +105,7 @@ module _ (parts rings : List (List Position)) (place : ℕ → ℕ) (copies : Ar
       }
 
   -- and back
-  pub meets_back : (first second : EdgeNumber) (point : RationalPoint) → first.ring < length parts → second.ring < length parts → MeetsWrongly rings (edge_moved place first) (edge_moved place second) point → MeetsWrongly parts first second point
+  pub meets_back : (first second : RingEdge) (point : RationalPoint) → first.ring < length parts → second.ring < length parts → MeetsWrongly rings (edge_moved place first) (edge_moved place second) point → MeetsWrongly parts first second point
   meets_back first second point within second_within meets = record {
     different = λ same. meets.different (ap (edge_moved place) same);
     one = meets.one;
@@ -121,7 +122,7 @@ module _ (parts rings : List (List Position)) (place : ℕ → ℕ) (copies : Ar
   none_meet none first second point meets = none (edge_moved place first) (edge_moved place second) point (meets_there first second point meets)
 
   -- the order of edges
-  before_there : (first second : EdgeNumber) → second.ring < length parts → ComesBefore first second → ComesBefore (edge_moved place first) (edge_moved place second)
+  before_there : (first second : RingEdge) → second.ring < length parts → ComesBefore first second → ComesBefore (edge_moved place first) (edge_moved place second)
   before_there first second within (inl less) = inl (copies.in_order first.ring second.ring less within)
   before_there first second within (inr same) = inr (ap place same.0, same.1)
 

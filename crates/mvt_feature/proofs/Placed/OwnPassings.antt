@@ -1,17 +1,15 @@
 -- What the rings of one polygon are to the number of polygons around: by notes of them, and among all rings.
-use Rattle.std.proofs.Common.{◌≡◌, ◌≢◌, ◌↔◌, inl, inr, ℕ, zero, suc, ◌+◌, ◌-◌, ◌<◌, ◌≤◌, Bool, List, length, slice_get, Option, Some, None, refl, sym, ◌∙◌, ap, subst, arith}
-use Rattle.std.proofs.lemmas.Option.{slice_get_within}
+use Rattle.std.proofs.Common.{◌≡◌, ◌≢◌, ◌↔◌, inl, inr, ℕ, zero, suc, ◌+◌, ◌-◌, ◌<◌, ◌≤◌, Bool, List, length, Option, Some, None, refl, sym, ◌∙◌, ap, subst, arith}
 use Rattle.mvt_rules.specs.Nesting.{IsVertexOf}
 use Rattle.mvt_rules.specs.Parts.Rings.{part_of, within_part, in_whole}
 use Rattle.mvt_rules.specs.Polygon.{PolygonRings, IsHoleOf}
 use Rattle.mvt_plane.specs.Position.{Position}
 use Rattle.mvt_sweep.specs.Meeting.{NoMeeting}
-use Rattle.mvt_rules.proofs.Rings.PartsOfRings.{ring_of_part, count_of_part, meeting_in_part}
+use Rattle.mvt_rules.proofs.Rings.PartsOfRings.{ring_of_part, meeting_in_part}
 use Rattle.mvt_polygon.proofs.PolygonSlices.{ring_of_whole}
 use Rattle.mvt_polygon.specs.Nesting.{one_polygon}
 use Rattle.mvt_feature.specs.Calls.Passings.{IsPassing, passing_by}
 use Rattle.mvt_feature.specs.Calls.PolygonsAround.{AreNotedBy, EntersPolygon, LeavesPolygon}
-use Rattle.mvt_sweep.specs.Rings.{AreProperRings}
 use Rattle.mvt_sweep.specs.RingsAround.{IsAround, AreNoted, nearest_at, odd_at}
 use Rattle.mvt_feature.specs.declared.feature.passing.Passing.{Passing}
 use Rattle.mvt_feature.specs.declared.feature.passing.Passing.TheVariants.{Enters, Leaves, Neither}

@@ -5,7 +5,6 @@ ghost use Rattle.mvt_sweep.specs.Work.{vertex_count};
 ghost use Rattle.mvt_feature.specs.Feature.{AddsSweeps};
 ghost use Rattle.mvt_feature.specs.Calls.FeatureParts.{AreAllHalves, IsFront, listed_at};
 ghost use Rattle.mvt_sweep.specs.Meeting.{IsMeetingOf, NoMeeting};
-ghost use Rattle.mvt_rules.specs.Parts.Rings.{part_of};
 ghost use Rattle.mvt_rules.specs.Polygon.{IsRingOf};
 ghost use Rattle.mvt_rules.specs.Ring.{ArePolygonRings};
 ghost use Rattle.mvt_polygon.specs.Polygons.{ArePolygons};

@@ -1,6 +1,5 @@
 //! Lakes: the holes of lands in which other polygons may be islands.
 ghost use Rattle.std.specs.Prelude.{◌≡◌, ◌<◌, ◌≤◌, ◌⊎◌, ℕ, List, length, slice_index, IfOk, IfSome};
-ghost use Rattle.mvt_rules.specs.Polygon.{IsHoleOf};
 ghost use Rattle.mvt_plane.specs.Position.{Position};
 ghost use Rattle.mvt_feature.specs.Calls.Cells.{AreCells};
 ghost use Rattle.mvt_feature.specs.Calls.Lands.{AreFirstCells, AreHeld, AreLakes, AreLakesParted, AreLakesUnmarked, AreLands, HoldsHole, IsHeld, IsLakeOf, IsSingleLakeOf};

@@ -1,16 +1,15 @@
 //! A fault of a feature whose polygons are kept apart: its first one, or any meeting of its edges.
-ghost use Rattle.std.specs.Prelude.{◌≡◌, ℕ, ◌<◌, ◌≤◌, ◌↔◌, length, IfNone, IfOk, IfSome, IsTrue};
+ghost use Rattle.std.specs.Prelude.{◌≡◌, ℕ, ◌<◌, ◌≤◌, ◌↔◌, length, IfOk, IsTrue};
 ghost use Rattle.mvt_feature.specs.Calls.FeatureParts.{fault_after, listed_at};
 ghost use Rattle.mvt_feature.specs.Calls.Islands.{AreMarked};
 ghost use Rattle.mvt_feature.specs.Calls.QuickParts.{IsMeetingFault, IsTogetherAnswer};
 ghost use Rattle.mvt_sweep.specs.Work.{vertex_count};
-ghost use Rattle.mvt_feature.specs.Feature.{AddsSweeps, IsCountedFault};
+ghost use Rattle.mvt_feature.specs.Feature.{AddsSweeps, IsCountedAnswer};
 ghost use Rattle.mvt_rules.specs.Polygon.{IsRingOf};
 ghost use Rattle.mvt_rules.specs.Ring.{ArePolygonRings};
 ghost use Rattle.mvt_polygon.specs.Polygons.{ArePolygons};
 ghost use Rattle.mvt_feature.specs.QuickFeature.{IsQuickAnswer};
 ghost use Rattle.mvt_sweep.specs.Rings.{rings_of, AreProperRings};
-ghost use Rattle.mvt_status.specs.Counts.{raised};
 
 use super::{FeatureCause, FeatureFault, are_all, fault_alone, first_of};
 use crate::feature::crowded::crowded;
@@ -40,13 +39,7 @@ pub fn check_feature_quickly(
     requires drawn { AreProperRings (rings_of rings.now) }
     ensures answer { IfOk result (IsQuickAnswer (rings_of rings.now)) }
     ensures counted { AddsSweeps 2 (vertex_count (rings_of rings.now)) count.old count.new }
-    ensures valid { IfOk result (λ found.
-        IfNone found (AddsSweeps 1 (vertex_count (rings_of rings.now)) count.old count.new)) }
-    ensures least { IfOk result (λ found.
-        IfNone found (raised (vertex_count (rings_of rings.now)) count.old.probes
-        ≤ count.new.probes)) }
-    ensures found { IfOk result (λ found.
-        IfSome found (IsCountedFault (rings_of rings.now) count.old count.new)) }
+    ensures by_answer { IfOk result (IsCountedAnswer (rings_of rings.now) count.old count.new) }
 {
     let polygons = groups(alloc, rings)?;
     if polygons.len() == 1 {
@@ -74,13 +67,7 @@ fn check_parted_quickly(
     requires marked { AreMarked (rings_of rings.now) polygons.now crowded.now }
     ensures answer { IfOk result (IsQuickAnswer (rings_of rings.now)) }
     ensures counted { AddsSweeps 2 (vertex_count (rings_of rings.now)) count.old count.new }
-    ensures valid { IfOk result (λ found.
-        IfNone found (AddsSweeps 1 (vertex_count (rings_of rings.now)) count.old count.new)) }
-    ensures least { IfOk result (λ found.
-        IfNone found (raised (vertex_count (rings_of rings.now)) count.old.probes
-        ≤ count.new.probes)) }
-    ensures found { IfOk result (λ found.
-        IfSome found (IsCountedFault (rings_of rings.now) count.old count.new)) }
+    ensures by_answer { IfOk result (IsCountedAnswer (rings_of rings.now) count.old count.new) }
 {
     let alone = fault_alone(alloc, rings, polygons, crowded, count)?;
     let gathered = gather(alloc, rings, polygons, crowded)?;
@@ -113,13 +100,7 @@ fn check_together_quickly(
     requires drawn { AreProperRings (rings_of rings.now) }
     ensures answer { IfOk result (IsTogetherAnswer (rings_of rings.now)) }
     ensures counted { AddsSweeps 2 (vertex_count (rings_of rings.now)) count.old count.new }
-    ensures valid { IfOk result (λ found.
-        IfNone found (AddsSweeps 1 (vertex_count (rings_of rings.now)) count.old count.new)) }
-    ensures least { IfOk result (λ found.
-        IfNone found (raised (vertex_count (rings_of rings.now)) count.old.probes
-        ≤ count.new.probes)) }
-    ensures found { IfOk result (λ found.
-        IfSome found (IsCountedFault (rings_of rings.now) count.old count.new)) }
+    ensures by_answer { IfOk result (IsCountedAnswer (rings_of rings.now) count.old count.new) }
 {
     let polygons = groups(alloc, rings)?;
     match sweep_rings(alloc, rings, count)? {

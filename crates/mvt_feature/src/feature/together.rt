@@ -1,13 +1,12 @@
 //! The first fault of a feature whose polygons may all meet or lie in each other.
-ghost use Rattle.std.specs.Prelude.{◌≡◌, ℕ, ◌+◌, ◌<◌, ◌≤◌, IfNone, IfOk, IfSome, length, option_map};
+ghost use Rattle.std.specs.Prelude.{◌≡◌, ℕ, ◌+◌, ◌<◌, IfOk, IfSome, length, option_map};
 ghost use Rattle.mvt_sweep.specs.Work.{vertex_count};
-ghost use Rattle.mvt_feature.specs.Feature.{AddsSweeps, AreAtMost, IsCountedFault, IsFeatureAnswer};
+ghost use Rattle.mvt_feature.specs.Feature.{AddsSweeps, AreAtMost, IsCountedAnswer, IsFeatureAnswer};
 ghost use Rattle.mvt_feature.specs.Calls.FeatureParts.{fault_after, until_of};
 ghost use Rattle.mvt_sweep.specs.Meeting.{NoMeeting};
 ghost use Rattle.mvt_rules.specs.Ring.{ArePolygonRings};
-ghost use Rattle.mvt_polygon.specs.Polygons.{ArePolygons};
 ghost use Rattle.mvt_sweep.specs.Rings.{rings_of, AreProperRings};
-ghost use Rattle.mvt_status.specs.Counts.{bits, raised};
+ghost use Rattle.mvt_status.specs.Counts.{bits};
 
 use super::{FeatureCause, FeatureFault};
 use crate::feature::front::{Front, clear_front};
@@ -30,13 +29,7 @@ pub(super) fn check_together(
         → AddsSweeps (bits polygons + 2) (vertex_count (rings_of rings.now)) count.old count.new }
     ensures apart { NoMeeting (rings_of rings.now)
         → AddsSweeps 2 (vertex_count (rings_of rings.now)) count.old count.new }
-    ensures valid { IfOk result (λ found.
-        IfNone found (AddsSweeps 1 (vertex_count (rings_of rings.now)) count.old count.new)) }
-    ensures least { IfOk result (λ found.
-        IfNone found (raised (vertex_count (rings_of rings.now)) count.old.probes
-        ≤ count.new.probes)) }
-    ensures found { IfOk result (λ found.
-        IfSome found (IsCountedFault (rings_of rings.now) count.old count.new)) }
+    ensures by_answer { IfOk result (IsCountedAnswer (rings_of rings.now) count.old count.new) }
 {
     let polygons = groups(alloc, rings)?;
     let front = clear_front(alloc, rings, &polygons, count)?;

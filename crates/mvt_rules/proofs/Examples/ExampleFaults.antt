@@ -8,7 +8,7 @@ use Rattle.mvt_rules.proofs.Examples.ExampleNesting.{hole_outside, hole_within, 
 use Rattle.mvt_rules.proofs.Examples.ExampleRings.{second_polygon}
 use Rattle.mvt_rules.proofs.Rings.SamePolygons.{one_polygon}
 use Rattle.mvt_plane.specs.Geometry.Examples.{at, fraction, square, frame}
-use Rattle.mvt_rules.specs.Laws.Examples.{edge_number, rings_from, two_polygons, crossed, touching_hole, hole_beside, hole_in_hole, flat}
+use Rattle.mvt_rules.specs.Laws.Examples.{ring_edge, rings_from, two_polygons, crossed, touching_hole, hole_beside, hole_in_hole, flat}
 use Rattle.mvt_rules.specs.Meeting.{ComesBefore, IsShared, MeetsWrongly}
 use Rattle.mvt_rules.specs.Nesting.{IsOutside}
 use Rattle.mvt_rules.specs.Polygon.{PolygonRings, IsPolygon, IsRingOf}
@@ -16,14 +16,14 @@ use Rattle.mvt_plane.specs.Position.{Position}
 use Rattle.mvt_plane.specs.Geometry.RationalPoint.{RationalPoint, IsAt, IsBounded}
 use Rattle.mvt_rules.specs.Ring.{HasNoArea}
 use Rattle.mvt_rules.proofs.Examples.ExamplePolygons.{exterior_after, no_other_polygon, crossed_polygon, crossed_second, touching_polygon, beside_polygon, beside_second, two_holes, two_holes_second}
-use Rattle.mvt_rules.specs.PolygonFault.{number_of, IsPolygonOf, IsVertexOutside, IsVertexInHole}
+use Rattle.mvt_rules.specs.PolygonFault.{IsPolygonOf, IsVertexOutside, IsVertexInHole}
 use Rattle.mvt_rules.specs.Parts.ByPolygon.{IsMeeting}
 
 -- Meetings
 
 -- two edges of a polygon, by what is asked of them
 meeting : {rings : List (List Position)} {polygon : ℕ} {first second : RingEdge} {point : RationalPoint} (it : PolygonRings) → IsPolygonOf rings polygon it
-    → MeetsWrongly rings (number_of first) (number_of second) point → IsRingOf it first.ring → IsRingOf it second.ring → ComesBefore (number_of first) (number_of second) → IsBounded point
+    → MeetsWrongly rings first second point → IsRingOf it first.ring → IsRingOf it second.ring → ComesBefore first second → IsBounded point
     → IsMeeting rings polygon first second point
 meeting it of meets first_in second_in in_order bounded =
     record { polygon_rings = it; of = of; first_in = first_in; second_in = second_in; in_order = in_order; bounded = bounded; meets = meets }
@@ -34,7 +34,7 @@ crossing_shown = meeting (rings_from 0 1) crossed_polygon edges_cross (search ru
 
 -- wherever their ring stands, by the numbers of the point in lowest terms
 edges_cross_in : (rings : List (List Position)) (ring : ℕ) → slice_get rings ring ≡ Some crossed
-    → ((vertex : Position) → IsShared rings (edge_number ring 0) (edge_number ring 2) vertex → ¬ IsAt (fraction 40 40 9) vertex) → MeetsWrongly rings (edge_number ring 0) (edge_number ring 2) (fraction 40 40 9)
+    → ((vertex : Position) → IsShared rings (ring_edge ring 0) (ring_edge ring 2) vertex → ¬ IsAt (fraction 40 40 9) vertex) → MeetsWrongly rings (ring_edge ring 0) (ring_edge ring 2) (fraction 40 40 9)
 edges_cross_in rings ring there forbidden = record {
   different = search rules;
   one = record { a = at 0 8; b = at 10 0 };

@@ -7,7 +7,8 @@ use Rattle.mvt_rules.proofs.Examples.ExampleRings.{first_polygon, second_polygon
 use Rattle.mvt_rules.proofs.Rings.EdgePairs.{meets_either_way}
 use Rattle.mvt_rules.specs.Laws.Examples.{rings_from, two_polygons}
 use Rattle.mvt_plane.specs.Geometry.Examples.{square, frame, hole_of_frame}
-use Rattle.mvt_rules.specs.Meeting.{EdgeNumber, MeetsWrongly}
+use Rattle.mvt_rules.specs.Meeting.{MeetsWrongly}
+use Rattle.mvt_fault.specs.declared.ring.RingEdge.{RingEdge}
 use Rattle.mvt_rules.specs.Polygon.{PolygonRings}
 use Rattle.mvt_plane.specs.Position.{Position}
 use Rattle.mvt_plane.specs.Geometry.RationalPoint.{RationalPoint}
@@ -68,12 +69,12 @@ frame_round_hole : AllCommon (λ i j one other point. ⊥) (edges frame) (edges 
 frame_round_hole point = search (rules, ints)
 
 -- so these don't meet
-frame_misses_hole : (first second : EdgeNumber) (point : RationalPoint) → first.ring ≡ 1 → second.ring ≡ 2 → ¬ MeetsWrongly two_polygons first second point
+frame_misses_hole : (first second : RingEdge) (point : RationalPoint) → first.ring ≡ 1 → second.ring ≡ 2 → ¬ MeetsWrongly two_polygons first second point
 frame_misses_hole first second point exterior hole =
     rings_miss two_polygons first second frame hole_of_frame point (ap (slice_get two_polygons) exterior) (ap (slice_get two_polygons) hole) frame_round_hole
 
 -- nor do two of either
-frame_and_hole_apart : (first second : EdgeNumber) (point : RationalPoint) → (first.ring ≡ 1) ⊎ (first.ring ≡ 2) → (second.ring ≡ 1) ⊎ (second.ring ≡ 2) → ¬ MeetsWrongly two_polygons first second point
+frame_and_hole_apart : (first second : RingEdge) (point : RationalPoint) → (first.ring ≡ 1) ⊎ (first.ring ≡ 2) → (second.ring ≡ 1) ⊎ (second.ring ≡ 2) → ¬ MeetsWrongly two_polygons first second point
 frame_and_hole_apart first second point (inl one) (inl other) = ring_apart two_polygons 1 frame first second point refl frame_apart one other
 frame_and_hole_apart first second point (inl one) (inr other) = frame_misses_hole first second point one other
 frame_and_hole_apart first second point (inr one) (inl other) = λ meets. frame_misses_hole second first point other one (meets_either_way two_polygons first second point meets)

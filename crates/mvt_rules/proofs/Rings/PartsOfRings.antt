@@ -4,7 +4,8 @@ use Rattle.std.proofs.lemmas.List.{length-drop, length-take}
 use Rattle.mvt_plane.specs.Position.{Position}
 use Rattle.mvt_plane.specs.Geometry.RationalPoint.{RationalPoint}
 use Rattle.mvt_rules.specs.Polygon.{PolygonRings, IsRingOf, IsHoleOf}
-use Rattle.mvt_rules.specs.Meeting.{EdgeNumber, IsEdgeOf, Follows, IsShared, forward, backward, MeetsWrongly}
+use Rattle.mvt_rules.specs.Meeting.{IsEdgeOf, Follows, IsShared, forward, backward, MeetsWrongly}
+use Rattle.mvt_fault.specs.declared.ring.RingEdge.{RingEdge}
 use Rattle.mvt_rules.specs.Nesting.{IsVertexOf, IsOutside, IsInHole}
 use Rattle.mvt_rules.specs.Parts.Rings.{part_of, within_part, in_whole}
 use Rattle.mvt_plane.specs.declared.geometry.edge.Edge.{Edge}
@@ -44,7 +45,7 @@ number_in_part it ring of_it =
 -- Edges
 
 -- an edge
-pub edge_of_part : (rings : List (List Position)) (it : PolygonRings) (number : EdgeNumber) (edge : Edge) → number.ring < it.after - it.exterior → IsEdgeOf (part_of rings it) number edge ↔ IsEdgeOf rings (in_whole it.exterior number) edge
+pub edge_of_part : (rings : List (List Position)) (it : PolygonRings) (number : RingEdge) (edge : Edge) → number.ring < it.after - it.exterior → IsEdgeOf (part_of rings it) number edge ↔ IsEdgeOf rings (in_whole it.exterior number) edge
 edge_of_part rings it number edge within =
     let same = ring_of_part rings it number.ring within in (
       λ there. record { ring = there.ring; there = sym same ∙ there.there; here = there.here },
@@ -52,7 +53,7 @@ edge_of_part rings it number edge within =
     )
 
 -- one that follows another
-follows_in_part : (rings : List (List Position)) (it : PolygonRings) (first second : EdgeNumber) (vertex : Position) → first.ring < it.after - it.exterior → Follows (part_of rings it) first second vertex ↔ Follows rings (in_whole it.exterior first) (in_whole it.exterior second) vertex
+follows_in_part : (rings : List (List Position)) (it : PolygonRings) (first second : RingEdge) (vertex : Position) → first.ring < it.after - it.exterior → Follows (part_of rings it) first second vertex ↔ Follows rings (in_whole it.exterior first) (in_whole it.exterior second) vertex
 follows_in_part rings it first second vertex within =
     let same = ring_of_part rings it first.ring within in (
       λ follows. record { ring = follows.ring; there = sym same ∙ follows.there; same = ap (λ ring. it.exterior + ring) follows.same; next = follows.next; between = follows.between },
@@ -61,30 +62,30 @@ follows_in_part rings it first second vertex within =
     )
 
 -- so for neighbours
-into_whole : (rings : List (List Position)) (it : PolygonRings) (first second : EdgeNumber) (vertex : Position) → first.ring < it.after - it.exterior → second.ring < it.after - it.exterior → IsShared (part_of rings it) first second vertex → IsShared rings (in_whole it.exterior first) (in_whole it.exterior second) vertex
+into_whole : (rings : List (List Position)) (it : PolygonRings) (first second : RingEdge) (vertex : Position) → first.ring < it.after - it.exterior → second.ring < it.after - it.exterior → IsShared (part_of rings it) first second vertex → IsShared rings (in_whole it.exterior first) (in_whole it.exterior second) vertex
 into_whole rings it first second vertex first_within second_within (forward follows) = forward ((follows_in_part rings it first second vertex first_within).0 follows)
 into_whole rings it first second vertex first_within second_within (backward follows) = backward ((follows_in_part rings it second first vertex second_within).0 follows)
 
 -- and back
-into_part : (rings : List (List Position)) (it : PolygonRings) (first second : EdgeNumber) (vertex : Position) → first.ring < it.after - it.exterior → second.ring < it.after - it.exterior → IsShared rings (in_whole it.exterior first) (in_whole it.exterior second) vertex → IsShared (part_of rings it) first second vertex
+into_part : (rings : List (List Position)) (it : PolygonRings) (first second : RingEdge) (vertex : Position) → first.ring < it.after - it.exterior → second.ring < it.after - it.exterior → IsShared rings (in_whole it.exterior first) (in_whole it.exterior second) vertex → IsShared (part_of rings it) first second vertex
 into_part rings it first second vertex first_within second_within (forward follows) = forward ((follows_in_part rings it first second vertex first_within).1 follows)
 into_part rings it first second vertex first_within second_within (backward follows) = backward ((follows_in_part rings it second first vertex second_within).1 follows)
 
 -- the vertex that neighbours share
-pub shared_in_part : (rings : List (List Position)) (it : PolygonRings) (first second : EdgeNumber) (vertex : Position) → first.ring < it.after - it.exterior → second.ring < it.after - it.exterior → IsShared (part_of rings it) first second vertex ↔ IsShared rings (in_whole it.exterior first) (in_whole it.exterior second) vertex
+pub shared_in_part : (rings : List (List Position)) (it : PolygonRings) (first second : RingEdge) (vertex : Position) → first.ring < it.after - it.exterior → second.ring < it.after - it.exterior → IsShared (part_of rings it) first second vertex ↔ IsShared rings (in_whole it.exterior first) (in_whole it.exterior second) vertex
 shared_in_part rings it first second vertex first_within second_within =
     (into_whole rings it first second vertex first_within second_within, into_part rings it first second vertex first_within second_within)
 
 -- numbers that are one in the whole are one in the part
-same_number : (from : ℕ) (first second : EdgeNumber) → in_whole from first ≡ in_whole from second → first ≡ second
+same_number : (from : ℕ) (first second : RingEdge) → in_whole from first ≡ in_whole from second → first ≡ second
 same_number from first second same =
-    let rings : from + first.ring ≡ from + second.ring = ap (λ (number : EdgeNumber). number.ring) same in
+    let rings : from + first.ring ≡ from + second.ring = ap (λ (number : RingEdge). number.ring) same in
     let ring : first.ring ≡ second.ring = omega arith in
-    let edge : first.edge ≡ second.edge = ap (λ (number : EdgeNumber). number.edge) same in
+    let edge : first.edge ≡ second.edge = ap (λ (number : RingEdge). number.edge) same in
     λ i. record { ring = ring i; edge = edge i }
 
 -- a wrong meeting
-pub meeting_in_part : (rings : List (List Position)) (it : PolygonRings) (first second : EdgeNumber) (point : RationalPoint) → first.ring < it.after - it.exterior → second.ring < it.after - it.exterior → MeetsWrongly (part_of rings it) first second point ↔ MeetsWrongly rings (in_whole it.exterior first) (in_whole it.exterior second) point
+pub meeting_in_part : (rings : List (List Position)) (it : PolygonRings) (first second : RingEdge) (point : RationalPoint) → first.ring < it.after - it.exterior → second.ring < it.after - it.exterior → MeetsWrongly (part_of rings it) first second point ↔ MeetsWrongly rings (in_whole it.exterior first) (in_whole it.exterior second) point
 meeting_in_part rings it first second point first_within second_within = (
   λ meets. record {
     different = λ same. meets.different (same_number it.exterior first second same);

@@ -1,7 +1,8 @@
 -- Edges that have at most the vertices between them in common don't meet wrongly.
 use Rattle.std.proofs.Common.{◌≡◌, ℕ, zero, suc, ◌⊎◌, inl, inr, List, [], ◌∷◌, length, slice_get, Some, sym, ◌∙◌, ap₂, subst}
 use Rattle.mvt_plane.proofs.Rings.RingEdges.{ends_of_edge}
-use Rattle.mvt_rules.specs.Meeting.{EdgeNumber, IsEdgeOf, forward, backward, MeetsWrongly}
+use Rattle.mvt_rules.specs.Meeting.{IsEdgeOf, forward, backward, MeetsWrongly}
+use Rattle.mvt_fault.specs.declared.ring.RingEdge.{RingEdge}
 use Rattle.mvt_plane.specs.Position.{Position}
 use Rattle.mvt_plane.specs.Geometry.RationalPoint.{RationalPoint, IsAt, LiesOn}
 use Rattle.mvt_plane.specs.Geometry.Ring.{edges, next_round}
@@ -19,7 +20,7 @@ of_edge Holds (first ∷ rest) zero edge all here = let same : first ≡ edge = 
 of_edge Holds (first ∷ rest) (suc number) edge all here = of_edge (λ n. Holds (suc n)) rest number edge all.1 here
 
 -- an edge of a known ring is that of its number
-edge_here : (rings : List (List Position)) (number : EdgeNumber) (ring : List Position) (edge : Edge) → slice_get rings number.ring ≡ Some ring → IsEdgeOf rings number edge
+edge_here : (rings : List (List Position)) (number : RingEdge) (ring : List Position) (edge : Edge) → slice_get rings number.ring ≡ Some ring → IsEdgeOf rings number edge
     → slice_get (edges ring) number.edge ≡ Some edge
 edge_here rings number ring edge there its =
     let same : its.ring ≡ ring = cc in
@@ -31,7 +32,7 @@ AllCommon Holds some others = (point : RationalPoint)
     → AllNumbered (λ i one. AllNumbered (λ j other. LiesOn point one → LiesOn point other → Holds i j one other point) others) some
 
 -- so has each where edges of two rings meet
-of_meeting : (Holds : ℕ → ℕ → Edge → Edge → RationalPoint → Type 0) (rings : List (List Position)) (first second : EdgeNumber) (ring other : List Position) (point : RationalPoint)
+of_meeting : (Holds : ℕ → ℕ → Edge → Edge → RationalPoint → Type 0) (rings : List (List Position)) (first second : RingEdge) (ring other : List Position) (point : RationalPoint)
     → slice_get rings first.ring ≡ Some ring → slice_get rings second.ring ≡ Some other → AllCommon Holds (edges ring) (edges other)
     → (meets : MeetsWrongly rings first second point) → Holds first.edge second.edge meets.one meets.other point
 of_meeting Holds rings first second ring other point there other_there all meets =
@@ -42,7 +43,7 @@ of_meeting Holds rings first second ring other point there other_there all meets
     other_here meets.on_one meets.on_other
 
 -- edges of rings that have no point in common don't meet
-pub rings_miss : (rings : List (List Position)) (first second : EdgeNumber) (ring other : List Position) (point : RationalPoint)
+pub rings_miss : (rings : List (List Position)) (first second : RingEdge) (ring other : List Position) (point : RationalPoint)
     → slice_get rings first.ring ≡ Some ring → slice_get rings second.ring ≡ Some other → AllCommon (λ i j one other point. ⊥) (edges ring) (edges other)
     → ¬ MeetsWrongly rings first second point
 rings_miss rings first second ring other point = of_meeting (λ i j one another point. ⊥) rings first second ring other point
@@ -53,7 +54,7 @@ IsVertexBetween count i j one other point =
     (i ≡ j) ⊎ (((j ≡ next_round count i) × IsAt point other.a) ⊎ ((i ≡ next_round count j) × IsAt point one.a))
 
 -- where all are such, the edges don't meet wrongly
-pub ring_apart : (rings : List (List Position)) (number : ℕ) (ring : List Position) (first second : EdgeNumber) (point : RationalPoint) → slice_get rings number ≡ Some ring
+pub ring_apart : (rings : List (List Position)) (number : ℕ) (ring : List Position) (first second : RingEdge) (point : RationalPoint) → slice_get rings number ≡ Some ring
     → AllCommon (IsVertexBetween (length ring)) (edges ring) (edges ring) → first.ring ≡ number → second.ring ≡ number → ¬ MeetsWrongly rings first second point
 ring_apart rings number ring first second point here apart one another meets = elim (of_meeting (IsVertexBetween (length ring)) rings first second ring ring point there other_there apart meets) [
   | inl same ↦ meets.different (ap₂ (λ (r e : ℕ). record { ring = r; edge = e }) (one ∙ sym another) same)
@@ -71,5 +72,5 @@ ring_apart rings number ring first second point here apart one another meets = e
     other_there : slice_get rings second.ring ≡ Some ring
     other_there = cc
 
-    begins : (number : EdgeNumber) (edge : Edge) → slice_get rings number.ring ≡ Some ring → IsEdgeOf rings number edge → slice_get ring number.edge ≡ Some edge.a
+    begins : (number : RingEdge) (edge : Edge) → slice_get rings number.ring ≡ Some ring → IsEdgeOf rings number edge → slice_get ring number.edge ≡ Some edge.a
     begins number edge there its = (ends_of_edge ring number.edge edge (edge_here rings number ring edge there its)).0

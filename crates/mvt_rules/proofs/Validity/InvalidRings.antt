@@ -5,7 +5,7 @@ use Rattle.mvt_fault.specs.declared.ring.RingEdge.{RingEdge}
 use Rattle.mvt_plane.specs.Position.{Position}
 use Rattle.mvt_plane.specs.Geometry.RationalPoint.{RationalPoint}
 use Rattle.mvt_rules.specs.Ring.{BreaksRings, ends_at_its_beginning, no_area, begins_with_hole, ArePolygonRings}
-use Rattle.mvt_rules.specs.PolygonFault.{number_of, IsMeetingBy, IsVertexOutside, IsVertexInHole, IsVertexInPolygonBy}
+use Rattle.mvt_rules.specs.PolygonFault.{IsMeetingBy, IsVertexOutside, IsVertexInHole, IsVertexInPolygonBy}
 use Rattle.mvt_rules.specs.Valid.{AreValidRingsBy}
 
 -- a ring has a fault of its own
@@ -22,7 +22,7 @@ ring_is_invalid profile rings code ring broken valid = not_sound rings code ring
 pub meeting_is_invalid : (profile : Profile) (rings : List (List Position)) (polygon : ℕ) (first second : RingEdge) (point : RationalPoint) → IsMeetingBy profile rings polygon first second point → ¬ AreValidRingsBy profile rings
 meeting_is_invalid profile rings polygon first second point meeting valid =
     let its = valid.polygons polygon meeting.polygon_rings meeting.of.there in
-    its.apart (number_of first) (number_of second) point meeting.first_in meeting.second_in meeting.meets
+    its.apart first second point meeting.first_in meeting.second_in meeting.meets
 
 -- a vertex of a hole is outside the exterior
 pub outside_is_invalid : (profile : Profile) (rings : List (List Position)) (polygon ring vertex : ℕ) → IsVertexOutside rings polygon ring vertex → ¬ AreValidRingsBy profile rings

@@ -14,7 +14,7 @@ use Rattle.mvt_rules.proofs.Rings.EdgePairs.{meets_either_way, one_shared_vertex
 use Rattle.mvt_plane.proofs.Spelling.SpelledRings.{three_vertices, vertices_in_range}
 use Rattle.mvt_plane.specs.Geometry.CommonPoint.{IsCommon}
 use Rattle.mvt_plane.specs.FeatureGeometry.{HasRings}
-use Rattle.mvt_rules.specs.Meeting.{EdgeNumber, ComesBefore, IsEdgeOf, IsShared, MeetsWrongly}
+use Rattle.mvt_rules.specs.Meeting.{ComesBefore, IsEdgeOf, IsShared, MeetsWrongly}
 use Rattle.mvt_rules.specs.Polygon.{PolygonRings, IsPolygon, IsRingOf}
 use Rattle.mvt_plane.specs.Position.{Position, IsPosition}
 use Rattle.mvt_plane.specs.Geometry.RationalPoint.{RationalPoint, IsAt, IsBounded}
@@ -25,7 +25,7 @@ use Rattle.mvt_rules.specs.PolygonFault.{IsPolygonOf, IsMeetingBy}
 use Rattle.mvt_rules.specs.Profiles.{IsKeptApart}
 
 -- both ends of an edge of spelled rings are in range
-edge_in_range : (kind : ℕ) (numbers : List ℕ) (parts : List (List Position)) (number : EdgeNumber) (edge : Edge) → HasRings kind numbers parts → IsEdgeOf parts number edge → IsPosition edge.a × IsPosition edge.b
+edge_in_range : (kind : ℕ) (numbers : List ℕ) (parts : List (List Position)) (number : RingEdge) (edge : Edge) → HasRings kind numbers parts → IsEdgeOf parts number edge → IsPosition edge.a × IsPosition edge.b
 edge_in_range kind numbers parts number edge has it =
     let ends = ends_of_edge it.ring number.edge edge it.here in (
       vertices_in_range parts numbers number.ring number.edge it.ring edge.a has.spelled it.there ends.0,
@@ -33,13 +33,13 @@ edge_in_range kind numbers parts number edge has it =
     )
 
 -- two edges meet wrongly at a point in range
-record MeetInRange (parts : List (List Position)) (first second : EdgeNumber) : Type 0 where
+record MeetInRange (parts : List (List Position)) (first second : RingEdge) : Type 0 where
   pub point : RationalPoint
   pub bounded : IsBounded point
   pub meets : MeetsWrongly parts first second point
 
 -- so they do at the point that is named, if they share no other vertex than the one that it is to avoid
-at_named_point : (kind : ℕ) (numbers : List ℕ) (parts : List (List Position)) (first second : EdgeNumber) (shared : Option Position) (point : RationalPoint) → HasRings kind numbers parts
+at_named_point : (kind : ℕ) (numbers : List ℕ) (parts : List (List Position)) (first second : RingEdge) (shared : Option Position) (point : RationalPoint) → HasRings kind numbers parts
     → (meets : MeetsWrongly parts first second point) → IsCommon shared meets.one meets.other point
     → ((vertex : Position) → IsShared parts first second vertex → shared ≡ Some vertex) → MeetInRange parts first second
 at_named_point kind numbers parts first second shared point has meets common only =
@@ -63,7 +63,7 @@ at_named_point kind numbers parts first second shared point has meets common onl
     }
 
 -- so neighbours that meet wrongly at all do so in range
-neighbours_in_range : (kind : ℕ) (numbers : List ℕ) (parts : List (List Position)) (first second : EdgeNumber) (vertex : Position) (point : RationalPoint) → HasRings kind numbers parts
+neighbours_in_range : (kind : ℕ) (numbers : List ℕ) (parts : List (List Position)) (first second : RingEdge) (vertex : Position) (point : RationalPoint) → HasRings kind numbers parts
     → MeetsWrongly parts first second point → IsShared parts first second vertex → MeetInRange parts first second
 neighbours_in_range kind numbers parts first second vertex point has meets shared =
     at_named_point kind numbers parts first second (Some vertex) point has meets
@@ -74,7 +74,7 @@ neighbours_in_range kind numbers parts first second vertex point has meets share
     several = three_vertices parts numbers first.ring meets.one_there.ring has.spelled meets.one_there.there
 
 -- and so do other edges
-others_in_range : (kind : ℕ) (numbers : List ℕ) (parts : List (List Position)) (first second : EdgeNumber) (point : RationalPoint) → HasRings kind numbers parts
+others_in_range : (kind : ℕ) (numbers : List ℕ) (parts : List (List Position)) (first second : RingEdge) (point : RationalPoint) → HasRings kind numbers parts
     → MeetsWrongly parts first second point → ((vertex : Position) → ¬ IsShared parts first second vertex) → MeetInRange parts first second
 others_in_range kind numbers parts first second point has meets none =
     at_named_point kind numbers parts first second None point has meets
@@ -82,7 +82,7 @@ others_in_range kind numbers parts first second point has meets none =
     (λ vertex shared. absurd (none vertex shared))
 
 -- so it can't be that two edges don't, whether they are neighbours or not
-not_in_range : (kind : ℕ) (numbers : List ℕ) (parts : List (List Position)) (first second : EdgeNumber) (point : RationalPoint) → HasRings kind numbers parts
+not_in_range : (kind : ℕ) (numbers : List ℕ) (parts : List (List Position)) (first second : RingEdge) (point : RationalPoint) → HasRings kind numbers parts
     → MeetsWrongly parts first second point → ¬ MeetInRange parts first second → ⊥
 not_in_range kind numbers parts first second point has meets none =
     none (others_in_range kind numbers parts first second point has meets
@@ -91,7 +91,7 @@ not_in_range kind numbers parts first second point has meets none =
 -- Two edges in order
 
 -- two different edges come before each other one way or the other
-in_order : (first second : EdgeNumber) → first ≢ second → ComesBefore first second ⊎ ComesBefore second first
+in_order : (first second : RingEdge) → first ≢ second → ComesBefore first second ⊎ ComesBefore second first
 in_order first second different = by_ring (cases_order first.ring second.ring)
   where
     by_edge : first.ring ≡ second.ring → (first.edge ≡ second.edge) ⊎ ((first.edge < second.edge) ⊎ (second.edge < first.edge)) → ComesBefore first second ⊎ ComesBefore second first
@@ -104,27 +104,23 @@ in_order first second different = by_ring (cases_order first.ring second.ring)
     by_ring (inr (inl before)) = inl (inl before)
     by_ring (inr (inr following)) = inr (inl following)
 
--- the edge with these numbers, as a fault names it
-abbrev decided : EdgeNumber → RingEdge
-decided number = record { ring = number.ring; edge = number.edge }
-
 -- where the second edge's ring isn't after the first one's, they are kept apart the other way round too
 kept_back : (profile : Profile) (it : PolygonRings) (first second : ℕ) → IsKeptApart profile it first → IsRingOf it second → second ≤ first → IsKeptApart profile it second × IsRingOf it first
 kept_back Polygon it first second kept of following = (of, kept)
 kept_back Feature it first second kept of following = let from = of.from in (of.before, record { from = omega arith; before = kept })
 
 -- edges in order are of rings in order
-pub rings_in_order : (first second : EdgeNumber) → ComesBefore first second → first.ring ≤ second.ring
+pub rings_in_order : (first second : RingEdge) → ComesBefore first second → first.ring ≤ second.ring
 rings_in_order first second (inl before) = omega arith
 rings_in_order first second (inr within) = let same = within.0 in omega arith
 
 -- edges that are kept apart, in order, that have no meeting don't meet wrongly
-none_in_order : (profile : Profile) (kind : ℕ) (numbers : List ℕ) (parts : List (List Position)) (polygon : ℕ) (it : PolygonRings) (first second : EdgeNumber) (point : RationalPoint) → HasRings kind numbers parts → IsPolygonOf parts polygon it
+none_in_order : (profile : Profile) (kind : ℕ) (numbers : List ℕ) (parts : List (List Position)) (polygon : ℕ) (it : PolygonRings) (first second : RingEdge) (point : RationalPoint) → HasRings kind numbers parts → IsPolygonOf parts polygon it
     → ((one other : RingEdge) (at : RationalPoint) → ¬ IsMeetingBy profile parts polygon one other at)
     → IsKeptApart profile it first.ring → IsRingOf it second.ring → ComesBefore first second → ¬ MeetsWrongly parts first second point
 none_in_order profile kind numbers parts polygon it first second point has of none first_in second_in before meets =
     not_in_range kind numbers parts first second point has meets
-    (λ found. none (decided first) (decided second) found.point (record {
+    (λ found. none first second found.point (record {
       polygon_rings = it;
       of = of;
       first_in = first_in;
@@ -135,7 +131,7 @@ none_in_order profile kind numbers parts polygon it first second point has of no
     }))
 
 -- so none of these edges do
-pub none_meets : (profile : Profile) (kind : ℕ) (numbers : List ℕ) (parts : List (List Position)) (polygon : ℕ) (it : PolygonRings) (first second : EdgeNumber) (point : RationalPoint) → HasRings kind numbers parts → IsPolygonOf parts polygon it
+pub none_meets : (profile : Profile) (kind : ℕ) (numbers : List ℕ) (parts : List (List Position)) (polygon : ℕ) (it : PolygonRings) (first second : RingEdge) (point : RationalPoint) → HasRings kind numbers parts → IsPolygonOf parts polygon it
     → ((one other : RingEdge) (at : RationalPoint) → ¬ IsMeetingBy profile parts polygon one other at)
     → IsKeptApart profile it first.ring → IsRingOf it second.ring → ¬ MeetsWrongly parts first second point
 none_meets profile kind numbers parts polygon it first second point has of none first_in second_in meets = elim (in_order first second meets.different) [
@@ -149,8 +145,8 @@ none_meets profile kind numbers parts polygon it first second point has of none 
 
 -- where the edges that each polygon is kept apart from don't meet wrongly, no two edges do, in order of their rings
 apart_in_order : (rings : List (List Position)) → ArePolygonRings rings
-    → ((polygon : ℕ) (it : PolygonRings) → IsPolygon rings polygon it → (first second : EdgeNumber) (point : RationalPoint) → IsKeptApart Feature it first.ring → IsRingOf it second.ring → ¬ MeetsWrongly rings first second point)
-    → (first second : EdgeNumber) (point : RationalPoint) → first.ring ≤ second.ring → ¬ MeetsWrongly rings first second point
+    → ((polygon : ℕ) (it : PolygonRings) → IsPolygon rings polygon it → (first second : RingEdge) (point : RationalPoint) → IsKeptApart Feature it first.ring → IsRingOf it second.ring → ¬ MeetsWrongly rings first second point)
+    → (first second : RingEdge) (point : RationalPoint) → first.ring ≤ second.ring → ¬ MeetsWrongly rings first second point
 apart_in_order rings sound apart first second point before meets =
     let home = polygon_of_ring rings second.ring sound (slice_get_within rings second.ring meets.other_there.ring meets.other_there.there) in
     let ends = home.3.before in
@@ -158,8 +154,8 @@ apart_in_order rings sound apart first second point before meets =
 
 -- nor in any order
 pub all_apart : (rings : List (List Position)) → ArePolygonRings rings
-    → ((polygon : ℕ) (it : PolygonRings) → IsPolygon rings polygon it → (first second : EdgeNumber) (point : RationalPoint) → IsKeptApart Feature it first.ring → IsRingOf it second.ring → ¬ MeetsWrongly rings first second point)
-    → (first second : EdgeNumber) (point : RationalPoint) → ¬ MeetsWrongly rings first second point
+    → ((polygon : ℕ) (it : PolygonRings) → IsPolygon rings polygon it → (first second : RingEdge) (point : RationalPoint) → IsKeptApart Feature it first.ring → IsRingOf it second.ring → ¬ MeetsWrongly rings first second point)
+    → (first second : RingEdge) (point : RationalPoint) → ¬ MeetsWrongly rings first second point
 all_apart rings sound apart first second point meets = elim (cases_lt second.ring first.ring) [
   | inl following ↦ apart_in_order rings sound apart second first point (omega arith) (meets_either_way rings first second point meets)
   | inr before ↦ apart_in_order rings sound apart first second point before meets

@@ -1,13 +1,13 @@
 -- Rings with known answers, on which the definitions are tried (`laws::examples`).
 use Rattle.std.specs.Prelude.{ℕ, List, [], ◌∷◌}
-use Rattle.mvt_rules.specs.Meeting.{EdgeNumber}
+use Rattle.mvt_fault.specs.declared.ring.RingEdge.{RingEdge}
 use Rattle.mvt_rules.specs.Polygon.{PolygonRings}
 use Rattle.mvt_plane.specs.Position.{Position}
 use Rattle.mvt_plane.specs.Geometry.Examples.{at, square, frame, hole_of_frame}
 
 -- the edge of a ring
-abbrev pub edge_number : ℕ → ℕ → EdgeNumber
-edge_number ring edge = record { ring = ring; edge = edge }
+abbrev pub ring_edge : ℕ → ℕ → RingEdge
+ring_edge ring edge = record { ring = ring; edge = edge }
 
 -- the rings of a polygon
 abbrev pub rings_from : ℕ → ℕ → PolygonRings

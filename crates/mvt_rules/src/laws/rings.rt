@@ -1,7 +1,8 @@
 //! The laws of rings and polygons (Mapbox Vector Tile Specification 2.1, section 4.3.4.4).
 
 ghost use Rattle.std.specs.Prelude.{◌≡◌, ◌↔◌, ℕ, ◌+◌, ◌-◌, ◌<◌, ◌≤◌, List, length, slice_get, Some};
-ghost use Rattle.mvt_rules.specs.Meeting.{EdgeNumber, IsEdgeOf, IsShared, MeetsWrongly};
+ghost use Rattle.mvt_rules.specs.Meeting.{IsEdgeOf, IsShared, MeetsWrongly};
+ghost use Rattle.mvt_fault.specs.declared.ring.RingEdge.{RingEdge};
 ghost use Rattle.mvt_rules.specs.Nesting.{IsOutside, IsInHole};
 ghost use Rattle.mvt_rules.specs.Parts.Rings.{part_of, within_part, in_whole};
 ghost use Rattle.mvt_rules.specs.Polygon.{PolygonRings, IsPolygon, IsRingOf};
@@ -12,13 +13,13 @@ ghost use Rattle.mvt_plane.specs.declared.geometry.edge.Edge.{Edge};
 
 /// Two edges that meet wrongly do so in either order.
 pub fn meets_either_way()
-    ensures { (rings : List (List Position)) (first second : EdgeNumber) (point : RationalPoint) →
+    ensures { (rings : List (List Position)) (first second : RingEdge) (point : RationalPoint) →
         MeetsWrongly rings first second point → MeetsWrongly rings second first point }
 {}
 
 /// Two edges of a ring of three vertices or more share at most one of them.
 pub fn one_shared_vertex()
-    ensures { (rings : List (List Position)) (first second : EdgeNumber) (ring : List Position)
+    ensures { (rings : List (List Position)) (first second : RingEdge) (ring : List Position)
         (vertex other : Position) →
         slice_get rings first.ring ≡ Some ring → 2 < length ring
         → IsShared rings first second vertex →
@@ -55,19 +56,19 @@ pub fn a_part_of_rings()
         slice_get (part_of rings polygon_rings) ring
         ≡ slice_get rings (polygon_rings.exterior + ring) }
     ensures edge { (rings : List (List Position)) (polygon_rings : PolygonRings)
-        (number : EdgeNumber) (edge : Edge)
+        (number : RingEdge) (edge : Edge)
         → number.ring < polygon_rings.after - polygon_rings.exterior →
         IsEdgeOf (part_of rings polygon_rings) number edge
         ↔ IsEdgeOf rings (in_whole polygon_rings.exterior number) edge }
     ensures shared { (rings : List (List Position)) (polygon_rings : PolygonRings)
-        (first second : EdgeNumber) (vertex : Position) →
+        (first second : RingEdge) (vertex : Position) →
         first.ring < polygon_rings.after - polygon_rings.exterior
         → second.ring < polygon_rings.after - polygon_rings.exterior →
         IsShared (part_of rings polygon_rings) first second vertex
         ↔ IsShared rings (in_whole polygon_rings.exterior first)
         (in_whole polygon_rings.exterior second) vertex }
     ensures meeting { (rings : List (List Position)) (polygon_rings : PolygonRings)
-        (first second : EdgeNumber) (point : RationalPoint) →
+        (first second : RingEdge) (point : RationalPoint) →
         first.ring < polygon_rings.after - polygon_rings.exterior
         → second.ring < polygon_rings.after - polygon_rings.exterior →
         MeetsWrongly (part_of rings polygon_rings) first second point

@@ -2,7 +2,8 @@
 -- them.
 use Rattle.std.proofs.Common.{◌≡◌, ◌≢◌, ℕ, zero, suc, ◌+◌, ◌<◌, ◌≤◌, ◌==◌, ◌⊎◌, inl, inr, Bool, true, false, not, List, [], ◌∷◌, length, slice_get, Some, take, refl, sym, ◌∙◌, ap, ap₂, arith}
 use Rattle.std.proofs.lemmas.Bool.{cases_order, eq-eqb, ne_eqb}
-use Rattle.mvt_rules.specs.Meeting.{EdgeNumber, IsEdgeOf}
+use Rattle.mvt_rules.specs.Meeting.{IsEdgeOf}
+use Rattle.mvt_fault.specs.declared.ring.RingEdge.{RingEdge}
 use Rattle.mvt_plane.specs.Position.{Position}
 use Rattle.mvt_plane.specs.Geometry.Ring.{edges}
 use Rattle.mvt_plane.specs.declared.geometry.edge.Edge.{Edge}
@@ -143,7 +144,7 @@ odd_of_all decides (ring ∷ rest) = apart (odd decides (edges ring)) (odd_of_al
 
 -- the edges of rings, in a row
 pub odd_of_rings : (meets : ℕ → Bool) (decides : Edge → Bool) (rings : List (List Position)) (from : ℕ)
-    → ((number : EdgeNumber) (edge : Edge) → IsEdgeOf rings number edge → meets (from + (vertex_count (take number.ring rings) + number.edge)) ≡ decides edge)
+    → ((number : RingEdge) (edge : Edge) → IsEdgeOf rings number edge → meets (from + (vertex_count (take number.ring rings) + number.edge)) ≡ decides edge)
     → odd_from meets from (vertex_count rings) ≡ odd_of_all decides rings
 odd_of_rings meets decides [] from same = refl
 odd_of_rings meets decides (ring ∷ rest) from same =
@@ -153,7 +154,7 @@ odd_of_rings meets decides (ring ∷ rest) from same =
     let first : odd_from meets from (length ring) ≡ odd decides (edges ring) =
     ap (odd_from meets from) (sym (count_of_edges ring))
     ∙ odd_of_edges meets decides (edges ring) from here in
-    let following : (number : EdgeNumber) (edge : Edge) → IsEdgeOf rest number edge → meets (from + length ring + (vertex_count (take number.ring rest) + number.edge)) ≡ decides edge = λ number edge is.
+    let following : (number : RingEdge) (edge : Edge) → IsEdgeOf rest number edge → meets (from + length ring + (vertex_count (take number.ring rest) + number.edge)) ≡ decides edge = λ number edge is.
     let before = count_take ring rest number.ring in
     let at : from + length ring + (vertex_count (take number.ring rest) + number.edge) ≡ from + (vertex_count (take (suc number.ring) (ring ∷ rest)) + number.edge) =
     omega (arith, before) in

@@ -4,7 +4,8 @@ use Rattle.std.proofs.lemmas.Option.{same_Some, slice_get_within}
 use Rattle.mvt_plane.specs.Geometry.Below.{IsNotAbove, PassesBelow}
 use Rattle.mvt_plane.specs.Geometry.EdgeOrder.{segment_between}
 use Rattle.mvt_plane.specs.Geometry.Measure.{key_of}
-use Rattle.mvt_rules.specs.Meeting.{EdgeNumber, IsEdgeOf}
+use Rattle.mvt_rules.specs.Meeting.{IsEdgeOf}
+use Rattle.mvt_fault.specs.declared.ring.RingEdge.{RingEdge}
 use Rattle.mvt_plane.specs.Position.{Position, IsPosition}
 use Rattle.mvt_plane.specs.Geometry.Ring.{edges}
 use Rattle.mvt_plane.specs.declared.geometry.edge.Edge.{Edge}
@@ -28,7 +29,7 @@ use Rattle.mvt_sweep.proofs.Notes.FrontParity.{odd_from, odd_alike, is_in, in_by
 -- Edges in the front
 
 -- an edge of rings that passes below the position is in the front
-front_has : (rings : List (List Position)) (vertices : SweepVertices) (position : Position) (front : List ℕ) (number : EdgeNumber) (edge : Edge)
+front_has : (rings : List (List Position)) (vertices : SweepVertices) (position : Position) (front : List ℕ) (number : RingEdge) (edge : Edge)
     → AreProperRings rings → AreSweepVertices rings vertices → AreBelow vertices position front → IsEdgeOf rings number edge → PassesBelow position edge → (at : ℕ) × (edge_at vertices at ≡ edge) × Has front at
 front_has rings vertices position front number edge proper are below is passes =
     let it = vertex_of_edge rings vertices number edge proper are is in
@@ -72,7 +73,7 @@ not_above_itself : (position : Position) (edge : Edge) → IsNotAbove position e
 not_above_itself position edge = let none = gap_to_itself (segment_between edge.a edge.b) (key_of position) (pos 1) in omega (arith, zs, none)
 
 -- of the edges that pass below the position none is above the last one of the front
-pub ring_of_front : (rings : List (List Position)) (vertices : SweepVertices) (position : Position) (front : List ℕ) (at : EdgeNumber)
+pub ring_of_front : (rings : List (List Position)) (vertices : SweepVertices) (position : Position) (front : List ℕ) (at : RingEdge)
     → AreProperRings rings → AreSweepVertices rings vertices → AreBelow vertices position front → 0 < length front → IsNumbered rings (slice_index front (length front - 1)) at → IsRingBelow position rings at.ring
 ring_of_front rings vertices position front at proper are below some is = record {
   number = at;
@@ -90,7 +91,7 @@ ring_of_front rings vertices position front at proper are below some is = record
     either one (inl same) = subst (λ (n : ℕ). IsNotAbove position (edge_at vertices n) (edge_at vertices last)) (sym same) (not_above_itself position (edge_at vertices last))
     either one (inr above) = above
 
-    none_above : (another : EdgeNumber) (other : Edge) → IsEdgeOf rings another other → PassesBelow position other → IsNotAbove position other (edge_at vertices last)
+    none_above : (another : RingEdge) (other : Edge) → IsEdgeOf rings another other → PassesBelow position other → IsNotAbove position other (edge_at vertices last)
     none_above another other its passes =
         let found = front_has rings vertices position front another other proper are below its passes in
         subst (λ (edge : Edge). IsNotAbove position edge (edge_at vertices last)) found.1
@@ -101,7 +102,7 @@ ring_of_front rings vertices position front at proper are below some is = record
 -- all vertices are in range, since those of a sweep are
 pub rings_in_range : (rings : List (List Position)) (vertices : SweepVertices) → AreProperRings rings → AreSweepVertices rings vertices → AreRingsInRange rings
 rings_in_range rings vertices proper are number vertex ring position there here =
-    let place : EdgeNumber = record { ring = number; edge = vertex } in
+    let place : RingEdge = record { ring = number; edge = vertex } in
     let at = vertex_count (take number rings) + vertex in
     let is : IsNumbered rings at place = record { ring = ring; there = there; within = slice_get_within ring vertex position here; numbered = refl } in
     let it = vertex_at rings vertices.list.now at place proper are is in
@@ -137,7 +138,7 @@ odd_of_front rings vertices position front proper are below =
     (λ there. (each (edge_at vertices number)).1
     (each_has (λ (edge : ℕ). PassesBelow position (edge_at vertices edge)) front number below.below (has_by_in front number there)))
     (λ passes. in_by_has front number below.once (below.all number within ((each (edge_at vertices number)).0 passes))) in
-    let of_edge : (number : EdgeNumber) (edge : Edge) → IsEdgeOf rings number edge → meets (0 + (vertex_count (take number.ring rings) + number.edge)) ≡ decides edge = λ number edge is.
+    let of_edge : (number : RingEdge) (edge : Edge) → IsEdgeOf rings number edge → meets (0 + (vertex_count (take number.ring rings) + number.edge)) ≡ decides edge = λ number edge is.
     let it = vertex_of_edge rings vertices number edge proper are is in
     let at : 0 + (vertex_count (take number.ring rings) + number.edge) ≡ it.at = omega (arith, it.numbered.numbered) in
     ap meets at ∙ ap decides it.its_edge in

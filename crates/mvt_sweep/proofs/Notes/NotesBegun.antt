@@ -4,7 +4,7 @@ use Rattle.std.proofs.lemmas.Int.{ints}
 use Rattle.std.proofs.lemmas.List.{length-replicate, get_or-replicate}
 use Rattle.std.proofs.lemmas.Option.{get_or_from_slice_get, same_Some, none-some, slice_get_past, slice_get_within, slice_get-get_or}
 use Rattle.mvt_plane.specs.Geometry.Measure.{key_of}
-use Rattle.mvt_rules.specs.Meeting.{EdgeNumber}
+use Rattle.mvt_fault.specs.declared.ring.RingEdge.{RingEdge}
 use Rattle.mvt_plane.specs.Position.{Position}
 use Rattle.mvt_sweep.specs.Calls.SweepVertices.{AreSweepVertices, IsNumbered, sweep_count, position_at}
 use Rattle.mvt_sweep.specs.Work.{vertex_count}
@@ -86,7 +86,7 @@ all_noted rings vertices key index notes come_to none last noted = record {
     note ring within =
         let positions = get_or rings ring [] in
         let there : slice_get rings ring ≡ Some positions = slice_get-get_or rings ring [] within in
-        let at : EdgeNumber = record { ring = ring; edge = 0 } in
+        let at : RingEdge = record { ring = ring; edge = 0 } in
         let is : IsNumbered rings (vertex_count (take ring rings)) at =
         record { ring = positions; there = there; within = omega (arith, noted.proper.several ring positions there); numbered = omega arith } in
         noted.there (vertex_count (take ring rings)) at is (last _ (numbered_within rings vertices.list.now (vertex_count (take ring rings)) at noted.are is))

@@ -6,7 +6,7 @@ use Rattle.std.proofs.lemmas.Bool.Decides.{nat_tests}
 use Rattle.std.proofs.lemmas.Grind.{div_ceil_times}
 use Rattle.std.proofs.lemmas.List.{length-append, length-replicate, get_or-append-add, get_or-replicate, take_all}
 use Rattle.std.proofs.lemmas.Option.{get_or_from_slice_get, same_Some, slice_get_within, slice_get-get_or}
-use Rattle.mvt_rules.specs.Meeting.{EdgeNumber}
+use Rattle.mvt_fault.specs.declared.ring.RingEdge.{RingEdge}
 use Rattle.mvt_plane.specs.Position.{Position}
 use Rattle.mvt_sweep.specs.Calls.SweepVertices.{AreSweepVertices, IsNumbered, far_end_of, is_first_at, sweep_count}
 use Rattle.mvt_sweep.specs.Calls.RingNotes.{IsIndexOf}
@@ -21,7 +21,7 @@ use Rattle.mvt_sweep.proofs.Vertices.VertexNumbers.{count_after, count_another, 
 -- the list has the ring of every eighth vertex of so many rings
 pub record AreFirstRings (rings : List (List Position)) (count : ℕ) (index : List ℕ) : Type 0 where
   pub size : length index ≡ div_ceil (vertex_count (take count rings)) 8
-  pub numbers : (place : ℕ) (at : EdgeNumber) → IsNumbered rings (8 * place) at → at.ring < count → slice_get index place ≡ Some at.ring
+  pub numbers : (place : ℕ) (at : RingEdge) → IsNumbered rings (8 * place) at → at.ring < count → slice_get index place ≡ Some at.ring
 
 -- so it has of one ring more
 pub next_ring_indexed : (rings : List (List Position)) (ring : ℕ) (index more : List ℕ) (vertices : List Position) → slice_get rings ring ≡ Some vertices → AreFirstRings rings ring index
@@ -73,7 +73,7 @@ kept_within rings vertices index number is within =
     slice_get_within index (number / 8) vertex.place.ring (is.numbers (number / 8) vertex.place vertex.is)
 
 -- that of the last vertex up to it whose ring is kept
-pub kept_read : (rings : List (List Position)) (vertices : SweepVertices) (index : List ℕ) (number ring : ℕ) (at : EdgeNumber) → IsIndexOf rings vertices index → ring ≡ get_or index (number / 8) ring
+pub kept_read : (rings : List (List Position)) (vertices : SweepVertices) (index : List ℕ) (number ring : ℕ) (at : RingEdge) → IsIndexOf rings vertices index → ring ≡ get_or index (number / 8) ring
     → IsNumbered rings (number - number % 8) at → ring ≡ at.ring
 kept_read rings vertices index number ring at is read its =
     let same : 8 * (number / 8) ≡ number - number % 8 = omega arith in
@@ -87,14 +87,14 @@ far_end_after : (count before edge : ℕ) → 3 ≤ count → edge < count → l
 far_end_after count before edge several within = grind (arith, nat_tests)
 
 -- so the test says
-first_by_edge : (rings : List (List Position)) (vertices : SweepVertices) (number : ℕ) (at : EdgeNumber) → AreProperRings rings → AreSweepVertices rings vertices → IsNumbered rings number at
+first_by_edge : (rings : List (List Position)) (vertices : SweepVertices) (number : ℕ) (at : RingEdge) → AreProperRings rings → AreSweepVertices rings vertices → IsNumbered rings number at
     → is_first_at vertices number ≡ (at.edge == 0)
 first_by_edge rings vertices number at proper are is =
     let far = (vertex_at rings vertices.list.now number at proper are is).far_end in
     ap₂ ltb is.numbered far ∙ far_end_after (length is.ring) (vertex_count (take at.ring rings)) at.edge (proper.several at.ring is.ring is.there) is.within
 
 -- the first vertex of a ring comes after one of the ring before it
-pub ring_begins : (rings : List (List Position)) (vertices : SweepVertices) (number : ℕ) (one other : EdgeNumber) → AreProperRings rings → AreSweepVertices rings vertices → IsNumbered rings number one
+pub ring_begins : (rings : List (List Position)) (vertices : SweepVertices) (number : ℕ) (one other : RingEdge) → AreProperRings rings → AreSweepVertices rings vertices → IsNumbered rings number one
     → IsNumbered rings (number + 1) other → is_first_at vertices (number + 1) ≡ true → other.ring ≡ one.ring + 1
 ring_begins rings vertices number one other proper are is its first =
     let edge : other.edge ≡ 0 = eqb-true other.edge 0 (sym (first_by_edge rings vertices (number + 1) other proper are its) ∙ first) in
@@ -110,14 +110,14 @@ ring_begins rings vertices number one other proper are is its first =
     ]
 
 -- any other vertex after one of its ring
-pub ring_goes_on : (rings : List (List Position)) (vertices : SweepVertices) (number : ℕ) (one other : EdgeNumber) → AreProperRings rings → AreSweepVertices rings vertices → IsNumbered rings number one
+pub ring_goes_on : (rings : List (List Position)) (vertices : SweepVertices) (number : ℕ) (one other : RingEdge) → AreProperRings rings → AreSweepVertices rings vertices → IsNumbered rings number one
     → IsNumbered rings (number + 1) other → is_first_at vertices (number + 1) ≡ false → other.ring ≡ one.ring
 ring_goes_on rings vertices number one other proper are is its not =
     let some = eqb-false other.edge 0 (sym (first_by_edge rings vertices (number + 1) other proper are its) ∙ not) in
     let edge : 0 < other.edge = omega (arith, some) in
-    let place : EdgeNumber = record { ring = other.ring; edge = other.edge - 1 } in
+    let place : RingEdge = record { ring = other.ring; edge = other.edge - 1 } in
     let before : IsNumbered rings number place = record { ring = its.ring; there = its.there; within = omega (arith, its.within); numbered = omega (arith, its.numbered, edge) } in
-    ap (λ (it : EdgeNumber). it.ring) (one_place rings number place one before is)
+    ap (λ (it : RingEdge). it.ring) (one_place rings number place one before is)
 
 -- How many rings there are
 
@@ -129,7 +129,7 @@ rings_counted rings (suc count) proper within =
     omega (arith, rings_counted rings count proper (omega (arith, within)), count_step rings count _ there, proper.several count _ there)
 
 -- a ring's number isn't above those of its vertices
-pub ring_up_to : (rings : List (List Position)) (number : ℕ) (at : EdgeNumber) → AreProperRings rings → IsNumbered rings number at → at.ring ≤ number
+pub ring_up_to : (rings : List (List Position)) (number : ℕ) (at : RingEdge) → AreProperRings rings → IsNumbered rings number at → at.ring ≤ number
 ring_up_to rings number at proper is =
     let within = slice_get_within rings at.ring is.ring is.there in
     omega (arith, is.numbered, rings_counted rings at.ring proper (omega (arith, within)))

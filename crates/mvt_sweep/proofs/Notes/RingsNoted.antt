@@ -5,7 +5,7 @@ use Rattle.std.proofs.lemmas.Int.{ints}
 use Rattle.std.proofs.lemmas.List.{get_or-take, get_or-set_other, length-set, length-take-le}
 use Rattle.std.proofs.lemmas.Option.{get_or_from_slice_get, same_Some, none-some, slice_get_within, slice_get-get_or}
 use Rattle.mvt_plane.specs.Geometry.Measure.{key_of}
-use Rattle.mvt_rules.specs.Meeting.{EdgeNumber}
+use Rattle.mvt_fault.specs.declared.ring.RingEdge.{RingEdge}
 use Rattle.mvt_plane.specs.Position.{Position}
 use Rattle.mvt_plane.proofs.Orders.Order.{le_or_lt}
 use Rattle.mvt_status.specs.Split.{before}
@@ -34,7 +34,7 @@ use Rattle.mvt_sweep.proofs.Vertices.SegmentEnds.{low_is}
 -- The edge below
 
 -- its ring is noted where the line came to an end of it
-noted_by_end : (rings : List (List Position)) (vertices : SweepVertices) (key : ℤ) (index : List ℕ) (notes : List Around) (come_to : List ℕ) (edge : ℕ) (at : EdgeNumber)
+noted_by_end : (rings : List (List Position)) (vertices : SweepVertices) (key : ℤ) (index : List ℕ) (notes : List Around) (come_to : List ℕ) (edge : ℕ) (at : RingEdge)
     → AreListsNotedTo rings vertices key index notes come_to → edge < sweep_count vertices → IsNumbered rings edge at → key_of ((plan_of vertices).segment edge).low ≤ℤ key
     → IsNoted notes at.ring
 noted_by_end rings vertices key index notes come_to edge at noted within is begun = elim (low_is (position_at vertices edge) (position_at vertices (next_at vertices edge))) [
@@ -60,7 +60,7 @@ front_none edges (suc point) front beside none within =
 -- the edge in front of the place is one of a ring that is noted
 pub below_noted : (rings : List (List Position)) (vertices : SweepVertices) (key : ℤ) (index : List ℕ) (notes : List Around) (come_to : List ℕ) (number edge : ℕ) (place : Split) (edges : List ℕ)
     → AreListsNotedTo rings vertices key index notes come_to → IsPassed vertices key number (Some place) edges → place.front ≡ Some edge
-    → (at : EdgeNumber) × IsNumbered rings edge at × IsNoted notes at.ring
+    → (at : RingEdge) × IsNumbered rings edge at × IsNoted notes at.ring
 below_noted rings vertices key index notes come_to number edge place edges noted passed some =
     let begun : IsBegun vertices number place edges = passed.has_begun in
     let last = front_last edges place.point place.front edge begun.beside.front some begun.within in
@@ -160,7 +160,7 @@ one_noted rings vertices key index notes come_to ring new noted nothing is_known
     here = set_here notes ring new (slice_get_within notes ring Unknown nothing)
 
 -- and after the next vertex, where something is noted of its ring
-noted_on : (rings : List (List Position)) (vertices : SweepVertices) (key : ℤ) (index : List ℕ) (notes : List Around) (come_to : List ℕ) (number : ℕ) (at : EdgeNumber)
+noted_on : (rings : List (List Position)) (vertices : SweepVertices) (key : ℤ) (index : List ℕ) (notes : List Around) (come_to : List ℕ) (number : ℕ) (at : RingEdge)
     → AreListsNotedTo rings vertices key index notes come_to → IsAhead vertices key number → IsNumbered rings number at → IsNoted notes at.ring
     → AreListsNotedTo rings vertices (key_of (position_at vertices number)) index notes come_to
 noted_on rings vertices key index notes come_to number at noted ahead is found = record {
@@ -172,7 +172,7 @@ noted_on rings vertices key index notes come_to number at noted ahead is found =
     | inl old ↦ noted.there other its is_other old
     | inr same ↦
         let own : at ≡ its = one_place rings number at its is (subst (λ (n : ℕ). IsNumbered rings n its) same is_other) in
-        subst (λ (place : EdgeNumber). IsNoted notes place.ring) own found
+        subst (λ (place : RingEdge). IsNoted notes place.ring) own found
   ];
   right = noted.right;
   listed = noted.listed;
@@ -183,7 +183,7 @@ noted_on rings vertices key index notes come_to number at noted ahead is found =
 -- A vertex in which both edges begin
 
 -- where nothing was noted of its ring, it is the first vertex of the ring
-first_there : (rings : List (List Position)) (vertices : SweepVertices) (key : ℤ) (index : List ℕ) (notes : List Around) (come_to : List ℕ) (number : ℕ) (at : EdgeNumber)
+first_there : (rings : List (List Position)) (vertices : SweepVertices) (key : ℤ) (index : List ℕ) (notes : List Around) (come_to : List ℕ) (number : ℕ) (at : RingEdge)
     → AreListsNotedTo rings vertices key index notes come_to → IsAhead vertices key number → IsNumbered rings number at → slice_get notes at.ring ≡ Some Unknown
     → IsLeastVertex rings at.ring (position_at vertices number)
 first_there rings vertices key index notes come_to number at noted ahead is nothing = record {
@@ -194,7 +194,7 @@ first_there rings vertices key index notes come_to number at noted ahead is noth
   first = λ another other here. elim (le_or_lt (key_of (position_at vertices number)) (key_of other)) [
     | inl up ↦ up
     | inr down ↦
-        let place : EdgeNumber = record { ring = at.ring; edge = another } in
+        let place : RingEdge = record { ring = at.ring; edge = another } in
         let it = vertex_count (take at.ring rings) + another in
         let its : IsNumbered rings it place = record { ring = is.ring; there = is.there; within = slice_get_within is.ring another other here; numbered = refl } in
         let inside = numbered_within rings vertices.list.now it place noted.are its in
@@ -208,7 +208,7 @@ first_there rings vertices key index notes come_to number at noted ahead is noth
 }
 
 -- where its ring was noted, nothing more is to be
-pub noted_before : (rings : List (List Position)) (vertices : SweepVertices) (key : ℤ) (index : List ℕ) (notes : List Around) (come_to : List ℕ) (number : ℕ) (at : EdgeNumber)
+pub noted_before : (rings : List (List Position)) (vertices : SweepVertices) (key : ℤ) (index : List ℕ) (notes : List Around) (come_to : List ℕ) (number : ℕ) (at : RingEdge)
     (begun : Option Split) (edges : List ℕ) → AreListsNotedTo rings vertices key index notes come_to → IsPassed vertices key number begun edges → IsNumbered rings number at → IsNoted notes at.ring
     → AreListsNotedTo rings vertices (key_of (position_at vertices number)) index notes come_to
 noted_before rings vertices key index notes come_to number at begun edges noted passed is found = noted_on rings vertices key index notes come_to number at noted passed.ahead is found
@@ -218,7 +218,7 @@ nothing_known : Nothing ≢ Unknown
 nothing_known same = cc
 
 -- where no edge is below, it is noted that no ring is around its ring
-pub noted_alone : (rings : List (List Position)) (vertices : SweepVertices) (key : ℤ) (index : List ℕ) (notes : List Around) (come_to : List ℕ) (number : ℕ) (at : EdgeNumber)
+pub noted_alone : (rings : List (List Position)) (vertices : SweepVertices) (key : ℤ) (index : List ℕ) (notes : List Around) (come_to : List ℕ) (number : ℕ) (at : RingEdge)
     (place : Split) (edges : List ℕ) → AreListsNotedTo rings vertices key index notes come_to → IsPassed vertices key number (Some place) edges → IsNumbered rings number at
     → slice_get notes at.ring ≡ Some Unknown → place.front ≡ None
     → AreListsNotedTo rings vertices (key_of (position_at vertices number)) index (set notes at.ring Nothing) (come_to ++ at.ring ∷ [])
@@ -237,7 +237,7 @@ noted_alone rings vertices key index notes come_to number at place edges noted p
     (new, set_here notes at.ring new (slice_get_within notes at.ring Unknown nothing), nothing_known)
 
 -- where one is, what is noted of its ring
-pub noted_above : (rings : List (List Position)) (vertices : SweepVertices) (key : ℤ) (index : List ℕ) (notes : List Around) (come_to : List ℕ) (number edge : ℕ) (at lower : EdgeNumber)
+pub noted_above : (rings : List (List Position)) (vertices : SweepVertices) (key : ℤ) (index : List ℕ) (notes : List Around) (come_to : List ℕ) (number edge : ℕ) (at lower : RingEdge)
     (place : Split) (edges : List ℕ) (one new : Around) → AreListsNotedTo rings vertices key index notes come_to → IsPassed vertices key number (Some place) edges → IsNumbered rings number at
     → slice_get notes at.ring ≡ Some Unknown → place.front ≡ Some edge → IsNumbered rings edge lower → slice_get notes lower.ring ≡ Some one → one ≢ Unknown
     → IsNoteAbove one lower.ring (place.point % 2 == 1) new
@@ -279,7 +279,7 @@ noted_after_an_end rings vertices key index notes come_to number edges noted pas
     let vertex = sweep_vertex_there rings vertices.list.now number noted.are passed.known in
     let an_end = passed.has_begun in
     let less = an_end.before in
-    let came : (neighbour : ℕ) (at : EdgeNumber) → an_end.neighbour ≡ neighbour → neighbour < sweep_count vertices → IsNumbered rings neighbour at → IsNoted notes at.ring = λ neighbour at same inside is.
+    let came : (neighbour : ℕ) (at : RingEdge) → an_end.neighbour ≡ neighbour → neighbour < sweep_count vertices → IsNumbered rings neighbour at → IsNoted notes at.ring = λ neighbour at same inside is.
     let keys = ap (λ (n : ℕ). key_of (position_at vertices n)) same in
     elim (passed.ahead neighbour inside (omega (arith, ints, keys, less))) [
       | inl old ↦ noted.there neighbour at is old
@@ -300,9 +300,9 @@ pub index_noted : {rings : List (List Position)} {vertices : SweepVertices} {key
 index_noted noted = record { proper = noted.proper; are = noted.are; numbers = noted.numbers }
 
 -- the ring of a vertex, by the index, has its place in the notes
-pub ring_read : {rings : List (List Position)} {vertices : SweepVertices} {key : ℤ} {index : List ℕ} {notes : List Around} {come_to : List ℕ} (number ring : ℕ) (at : EdgeNumber)
+pub ring_read : {rings : List (List Position)} {vertices : SweepVertices} {key : ℤ} {index : List ℕ} {notes : List Around} {come_to : List ℕ} (number ring : ℕ) (at : RingEdge)
     → AreListsNotedTo rings vertices key index notes come_to → IsNumbered rings number at
-    → ((its : List (List Position)) (place : EdgeNumber) → IsIndexOf its vertices index → IsNumbered its number place → ring ≡ place.ring) → (ring ≡ at.ring) × (ring < length notes)
+    → ((its : List (List Position)) (place : RingEdge) → IsIndexOf its vertices index → IsNumbered its number place → ring ≡ place.ring) → (ring ≡ at.ring) × (ring < length notes)
 ring_read {rings = rings} number ring at noted is read =
     let same : ring ≡ at.ring = read rings at (index_noted noted) is in
     let within = slice_get_within rings at.ring is.ring is.there in

@@ -1,5 +1,5 @@
 -- What is counted at least.
-use Rattle.std.proofs.Common.{add-one, ◌≡◌, ℕ, zero, suc, ◌+◌, ◌*◌, ◌≤◌, List, [], ◌∷◌, Option, Some, None, IfNone, IfSome, refl, sym, subst, arith}
+use Rattle.std.proofs.Common.{add-one, ◌≡◌, ℕ, zero, suc, ◌+◌, ◌*◌, ◌≤◌, List, [], ◌∷◌, Option, Some, None, IfSome, refl, sym, subst, arith}
 use Rattle.std.proofs.Math.Nat.{mul-le-mul_right}
 use Rattle.mvt_plane.specs.Counted.{Counted, ticked}
 use Rattle.mvt_plane.specs.Position.{Position}
@@ -23,12 +23,6 @@ counted_by probes before between after (Some it) fewer least tested = omega (ari
 pub tested_there : {T : Type 0} (before after : Counted) (found : Option T) → IsCounted 0 before after found → IfSome found (λ _. ticked before.tests ≤ after.tests)
 tested_there before after None counted = tt
 tested_there before after (Some it) counted = counted
-
--- what is named is what was found
-pub counted_named : {T U : Type 0} (P : U → T → Type 0) (probes : ℕ) (before after : Counted) (found : Option T) (named : Option U) → IfNone named (found ≡ None)
-    → IfSome named (λ it. (its : T) × (found ≡ Some its) × P it its) → IsCounted probes before after found → IsCounted probes before after named
-counted_named P probes before after found None same is counted = subst (IsCounted probes before after) same counted
-counted_named P probes before after found (Some it) same is counted = subst (IsCounted probes before after) is.1 counted
 
 -- A step
 

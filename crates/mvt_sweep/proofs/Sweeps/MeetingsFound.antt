@@ -1,19 +1,15 @@
 -- The work of a sweep, step by step, and what follows for the rings from what it finds.
-use Rattle.std.proofs.Common.{◌≡◌, ℕ, ◌+◌, ◌*◌, ◌<◌, ◌≤◌, List, Option, Some, None, IfNone, IfSome, sym, subst, arith}
+use Rattle.std.proofs.Common.{◌≡◌, ℕ, ◌+◌, ◌*◌, ◌<◌, ◌≤◌, Option, Some, None, IfNone, IfSome, sym, subst, arith}
 use Rattle.std.proofs.Math.Nat.{mul-le-mul_right}
 use Rattle.mvt_plane.specs.Counted.{Counted}
-use Rattle.mvt_plane.specs.Position.{Position}
 use Rattle.mvt_sweep.specs.Work.{AddsWork}
 use Rattle.mvt_sweep.specs.Calls.VertexOrder.{AreTogether}
-use Rattle.mvt_sweep.specs.Calls.SweepVertices.{AreSweepVertices, IsMeetingAt, IsNamedMeeting, IsNamedPair, plan_of, sweep_count}
-use Rattle.mvt_sweep.specs.Meeting.{IsMeetingOf}
-use Rattle.mvt_sweep.specs.Rings.{AreProperRings}
+use Rattle.mvt_sweep.specs.Calls.SweepVertices.{IsMeetingAt, plan_of, sweep_count}
 use Rattle.mvt_sweep.specs.Calls.Sweep.{Tested}
 use Rattle.mvt_sweep.specs.declared.meeting.Meeting.{Meeting}
 use Rattle.mvt_sweep.specs.declared.sweep.vertices.SweepVertices.{SweepVertices}
 use Rattle.mvt_sweep.specs.declared.sweep.vertices.Pair.{Pair}
-use Rattle.mvt_sweep.specs.declared.sweep.vertices.NamedPair.{NamedPair}
-use Rattle.mvt_sweep.proofs.Vertices.VertexPlans.{together_meets, meeting_of_rings, named_not_tested}
+use Rattle.mvt_sweep.proofs.Vertices.VertexPlans.{together_meets, named_not_tested}
 use Rattle.mvt_sweep.proofs.Sweeps.StatusCounts.{work_then, work_within}
 
 -- The work
@@ -51,33 +47,21 @@ work_of_vertices vertices turns digits probes each before after fewer few work =
 
 -- What is found
 
--- the meeting that is returned is that of the two edges found
-abbrev pub IsNamedMeetingOf : List (List Position) → Option NamedPair → Meeting → Type 0
-IsNamedMeetingOf rings found meeting = (pair : NamedPair) × (found ≡ Some pair) × IsNamedMeeting rings pair meeting
-
--- a meeting of vertices' edges is one of the rings
-pub some_named : (rings : List (List Position)) (vertices : SweepVertices) (found : Option NamedPair) (result : Option Meeting) → AreProperRings rings → AreSweepVertices rings vertices
-    → IfSome found (IsNamedPair vertices) → IfSome result (IsNamedMeetingOf rings found) → IfSome result (IsMeetingOf rings)
-some_named rings vertices found None proper are is named = named
-some_named rings vertices found (Some meeting) proper are is (pair, same, named) =
-    meeting_of_rings rings vertices pair meeting proper are (subst (λ (it : Option NamedPair). IfSome it (IsNamedPair vertices)) same is) named
-
 -- where none is returned, none was found
 pub none_named : {X : Type 0} (found : Option X) (result : Option Meeting) (P : Type 0) → IfNone result (found ≡ None) → IfNone found P → IfNone result P
 none_named found None P same is = subst (λ it. IfNone it P) same is
 none_named found (Some meeting) P same is = same
 
--- what holds where two edges are named holds where they are returned
-pub if_named : (rings : List (List Position)) (found : Option NamedPair) (result : Option Meeting) (P : Type 0) → IfSome result (IsNamedMeetingOf rings found) → IfSome found (λ _. P)
-    → IfSome result (λ _. P)
-if_named rings found None P named holds = tt
-if_named rings found (Some meeting) P (pair, same, named) holds = subst (λ (it : Option NamedPair). IfSome it (λ _. P)) same holds
+-- what holds anyway holds where one is returned
+pub if_some : {T : Type 0} (found : Option T) (P : Type 0) → P → IfSome found (λ _. P)
+if_some None P holds = tt
+if_some (Some it) P holds = holds
 
--- a pair that was found has a name
-pub named_found : (vertices : SweepVertices) (pair : Pair) (result : Option NamedPair) (P : Type 0) → IsMeetingAt vertices pair → IfNone result (Tested (plan_of vertices) pair.first pair.second)
+-- a pair that was found has a meeting
+pub pair_meets : {T : Type 0} (vertices : SweepVertices) (pair : Pair) (result : Option T) (P : Type 0) → IsMeetingAt vertices pair → IfNone result (Tested (plan_of vertices) pair.first pair.second)
     → IfNone result P
-named_found vertices pair None P meets tested = absurd (named_not_tested vertices pair.first pair.second meets.point meets.named tested)
-named_found vertices pair (Some it) P meets tested = tested
+pair_meets vertices pair None P meets tested = absurd (named_not_tested vertices pair.first pair.second meets.point meets.named tested)
+pair_meets vertices pair (Some it) P meets tested = tested
 
 -- the work of a sweep with that of naming what it found
 pub named_work : (vertices : SweepVertices) (found : Option Pair) (many : ℕ) {probes visits : ℕ} {before between after : Counted} → sweep_count vertices ≡ many

@@ -1,19 +1,20 @@
 -- Edges by their numbers: which edge a number has.
 use Rattle.std.proofs.Common.{◌≡◌, ◌≢◌, ◌<◌, ℕ, inl, inr, List, length, get_or, slice_get, Some, refl, sym, ◌∙◌, ap, ap₂, subst, arith}
 use Rattle.std.proofs.lemmas.Option.{same_Some, slice_get_within, slice_get-get_or, slice_get_read}
-use Rattle.mvt_rules.specs.Meeting.{EdgeNumber, ComesBefore, IsEdgeOf}
+use Rattle.mvt_rules.specs.Meeting.{ComesBefore, IsEdgeOf}
+use Rattle.mvt_fault.specs.declared.ring.RingEdge.{RingEdge}
 use Rattle.mvt_plane.specs.Position.{Position}
 use Rattle.mvt_plane.specs.Geometry.Ring.{edges, next_round}
 use Rattle.mvt_plane.specs.declared.geometry.edge.Edge.{Edge}
 use Rattle.mvt_plane.proofs.Rings.RingEdges.{count_of_edges, ends_of_edge}
 
 -- an edge doesn't come before itself
-pub before_apart : (first second : EdgeNumber) → ComesBefore first second → first ≢ second
-before_apart first second (inl ring) same = let rings = ap (λ (it : EdgeNumber). it.ring) same in omega arith
-before_apart first second (inr edge) same = let edges = ap (λ (it : EdgeNumber). it.edge) same in omega arith
+pub before_apart : (first second : RingEdge) → ComesBefore first second → first ≢ second
+before_apart first second (inl ring) same = let rings = ap (λ (it : RingEdge). it.ring) same in omega arith
+before_apart first second (inr edge) same = let edges = ap (λ (it : RingEdge). it.edge) same in omega arith
 
 -- an edge's own number is below that of the ring's vertices
-pub within_ring : (rings : List (List Position)) (number : EdgeNumber) (it : Edge) (ring : List Position) → IsEdgeOf rings number it → slice_get rings number.ring ≡ Some ring → number.edge < length ring
+pub within_ring : (rings : List (List Position)) (number : RingEdge) (it : Edge) (ring : List Position) → IsEdgeOf rings number it → slice_get rings number.ring ≡ Some ring → number.edge < length ring
 within_ring rings number it ring is there =
     let same : is.ring ≡ ring = cc in
     let moved : slice_get (edges ring) number.edge ≡ Some it = subst (λ (its : List Position). slice_get (edges its) number.edge ≡ Some it) same is.here in

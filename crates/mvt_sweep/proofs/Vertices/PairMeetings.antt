@@ -1,7 +1,8 @@
 -- What `common` returns for two edges, said of their wrong meetings.
 use Rattle.std.proofs.Common.{◌≡◌, ◌↔◌, List, Option, Some}
 use Rattle.mvt_plane.specs.Geometry.CommonPoint.{IsNamed}
-use Rattle.mvt_rules.specs.Meeting.{EdgeNumber, ComesBefore, IsEdgeOf, IsShared}
+use Rattle.mvt_rules.specs.Meeting.{ComesBefore, IsEdgeOf, IsShared}
+use Rattle.mvt_fault.specs.declared.ring.RingEdge.{RingEdge}
 use Rattle.mvt_plane.specs.Position.{Position}
 use Rattle.mvt_plane.specs.Geometry.RationalPoint.{IsBounded}
 use Rattle.mvt_plane.specs.declared.geometry.edge.Edge.{Edge}
@@ -11,7 +12,7 @@ use Rattle.mvt_sweep.specs.declared.meeting.Meeting.{Meeting}
 use Rattle.mvt_sweep.proofs.Vertices.EdgeNumbers.{before_apart}
 
 -- what two edges share is this vertex, if it is one
-abbrev pub AreSharing : List (List Position) → EdgeNumber → EdgeNumber → Option Position → Type 0
+abbrev pub AreSharing : List (List Position) → RingEdge → RingEdge → Option Position → Type 0
 AreSharing rings first second shared = (vertex : Position) → (shared ≡ Some vertex) ↔ IsShared rings first second vertex
 
 -- edges for which a point is named meet wrongly

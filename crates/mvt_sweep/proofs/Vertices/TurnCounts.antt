@@ -4,7 +4,7 @@ use Rattle.std.proofs.lemmas.List.FromFn.{length-range_with_len}
 use Rattle.std.proofs.lemmas.List.Sums.{count_by-le-length, sum-map, sum_by-cons, sum_by-le-sum_by, sum_by-take-le, sum_by_more}
 use Rattle.std.proofs.lemmas.Option.{get_or_from_slice_get}
 use Rattle.std.specs.List.{count_by, range_with_len}
-use Rattle.mvt_rules.specs.Meeting.{EdgeNumber}
+use Rattle.mvt_fault.specs.declared.ring.RingEdge.{RingEdge}
 use Rattle.mvt_plane.specs.Position.{Position, origin}
 use Rattle.mvt_plane.specs.Geometry.Ring.{next_round}
 use Rattle.mvt_sweep.specs.Calls.VertexOrder.{IsOrder, turns_here}
@@ -89,7 +89,7 @@ turns_counted test (ring ∷ rest) from are =
 -- Vertex by vertex
 
 -- what the sweep has of a vertex turns where the vertex does
-turns_there : (rings : List (List Position)) (vertices : SweepVertices) (number : ℕ) (place : EdgeNumber) → AreProperRings rings → AreSweepVertices rings vertices
+turns_there : (rings : List (List Position)) (vertices : SweepVertices) (number : ℕ) (place : RingEdge) → AreProperRings rings → AreSweepVertices rings vertices
     → (is : IsNumbered rings number place) → is_turn_at vertices number ≡ turns_in is.ring place.edge
 turns_there rings vertices number place proper are is =
     let here : vertex_in is.ring place.edge ≡ position_at vertices number = get_or_from_slice_get is.ring place.edge (position_at vertices number) origin (vertex_at rings vertices.list.now number place proper are is).here in

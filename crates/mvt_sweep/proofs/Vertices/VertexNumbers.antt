@@ -5,7 +5,8 @@ use Rattle.std.proofs.lemmas.Bool.Decides.{nat_tests}
 use Rattle.std.proofs.lemmas.List.{length-append, length-take, take_all, take-map, take-take}
 use Rattle.std.proofs.lemmas.List.Sums.{sum_by-append, sum_by-take-le}
 use Rattle.std.proofs.lemmas.Option.{same_Some, slice_get_within, slice_get-get_or, none-some}
-use Rattle.mvt_rules.specs.Meeting.{EdgeNumber, ComesBefore}
+use Rattle.mvt_rules.specs.Meeting.{ComesBefore}
+use Rattle.mvt_fault.specs.declared.ring.RingEdge.{RingEdge}
 use Rattle.mvt_plane.specs.Position.{Position}
 use Rattle.mvt_plane.specs.Geometry.Ring.{next_round}
 use Rattle.mvt_sweep.specs.Calls.SweepVertices.{IsListOf, IsSweepVertexOf, IsNumbered, far_end_of}
@@ -109,7 +110,7 @@ count_within rings number ring there = omega (arith, count_step rings number rin
 -- The vertex of a number
 
 -- vertices come in the order of their rings, and in a ring in their own
-pub in_order : (rings : List (List Position)) (first second : ℕ) (one other : EdgeNumber) → IsNumbered rings first one → IsNumbered rings second other → first < second
+pub in_order : (rings : List (List Position)) (first second : ℕ) (one other : RingEdge) → IsNumbered rings first one → IsNumbered rings second other → first < second
     → ComesBefore one other
 in_order rings first second one other is its less =
     elim (cases_order one.ring other.ring) [
@@ -119,7 +120,7 @@ in_order rings first second one other is its less =
     ]
 
 -- one number is that of one vertex
-pub one_place : (rings : List (List Position)) (number : ℕ) (one other : EdgeNumber) → IsNumbered rings number one → IsNumbered rings number other → one ≡ other
+pub one_place : (rings : List (List Position)) (number : ℕ) (one other : RingEdge) → IsNumbered rings number one → IsNumbered rings number other → one ≡ other
 one_place rings number one other is its =
     elim (cases_order one.ring other.ring) [
       | inl alike ↦
@@ -135,31 +136,31 @@ pub sweep_vertex_there : (rings : List (List Position)) (vertices : List SweepVe
 sweep_vertex_there rings vertices number are within = are.each number (sweep_vertex_in vertices number) (slice_get-get_or vertices number no_sweep_vertex within)
 
 -- each vertex is there
-pub numbered_within : (rings : List (List Position)) (vertices : List SweepVertex) (number : ℕ) (place : EdgeNumber) → IsListOf rings vertices → IsNumbered rings number place
+pub numbered_within : (rings : List (List Position)) (vertices : List SweepVertex) (number : ℕ) (place : RingEdge) → IsListOf rings vertices → IsNumbered rings number place
     → number < length vertices
 numbered_within rings vertices number place are is = omega (arith, are.count, is.numbered, is.within, count_within rings place.ring is.ring is.there)
 
 -- what the sweep has by this number is that vertex of the ring, and knows those after and before it
-pub record IsVertex (rings : List (List Position)) (vertices : List SweepVertex) (number : ℕ) (place : EdgeNumber) (ring : List Position) : Type 0 where
+pub record IsVertex (rings : List (List Position)) (vertices : List SweepVertex) (number : ℕ) (place : RingEdge) (ring : List Position) : Type 0 where
   pub here : slice_get ring place.edge ≡ Some (position_in vertices number)
   pub far_end : (sweep_vertex_in vertices number).far_end ≡ vertex_count (take place.ring rings) + far_end_of (length ring) place.edge
   pub next : next_in vertices number ≡ vertex_count (take place.ring rings) + next_round (length ring) place.edge
   pub previous : previous_in vertices number ≡ vertex_count (take place.ring rings) + previous_round (length ring) place.edge
 
 -- so do those of proper rings
-pub vertex_at : (rings : List (List Position)) (vertices : List SweepVertex) (number : ℕ) (place : EdgeNumber) → AreProperRings rings → IsListOf rings vertices
+pub vertex_at : (rings : List (List Position)) (vertices : List SweepVertex) (number : ℕ) (place : RingEdge) → AreProperRings rings → IsListOf rings vertices
     → (is : IsNumbered rings number place)
     → IsVertex rings vertices number place is.ring
 vertex_at rings vertices number place proper are is =
     let its = sweep_vertex_there rings vertices number are (numbered_within rings vertices number place are is) in
     let alike : its.place ≡ place = one_place rings number its.place place its.is is in
-    let same : its.is.ring ≡ is.ring = same_Some its.is.ring is.ring (sym its.is.there ∙ ap (λ (p : EdgeNumber). slice_get rings p.ring) alike ∙ is.there) in
+    let same : its.is.ring ≡ is.ring = same_Some its.is.ring is.ring (sym its.is.there ∙ ap (λ (p : RingEdge). slice_get rings p.ring) alike ∙ is.there) in
     let before = vertex_count (take place.ring rings) in
     let several = proper.several place.ring is.ring is.there in
     let far : (sweep_vertex_in vertices number).far_end ≡ before + far_end_of (length is.ring) place.edge =
-    its.far_end ∙ ap₂ (λ (p : EdgeNumber) (r : List Position). vertex_count (take p.ring rings) + far_end_of (length r) p.edge) alike same in
+    its.far_end ∙ ap₂ (λ (p : RingEdge) (r : List Position). vertex_count (take p.ring rings) + far_end_of (length r) p.edge) alike same in
     record {
-      here = ap₂ (λ (r : List Position) (p : EdgeNumber). slice_get r p.edge) (sym same) (sym alike) ∙ its.here;
+      here = ap₂ (λ (r : List Position) (p : RingEdge). slice_get r p.edge) (sym same) (sym alike) ∙ its.here;
       far_end = far;
       next = ap₂ (λ (f n : ℕ). cond (ltb f n) f (n + 1)) far is.numbered ∙ next_by_far_end (length is.ring) before place.edge several is.within;
       previous = ap₂ (λ (f n : ℕ). cond (ltb n f) f (n - 1)) far is.numbered ∙ previous_by_far_end (length is.ring) before place.edge several is.within;

@@ -1,11 +1,12 @@
 -- The vertices of rings as a plan of a sweep, and what follows for the rings from what the sweep finds of the vertices.
-use Rattle.std.proofs.Common.{◌≡◌, ◌≢◌, ℕ, ◌+◌, ◌<◌, ◌⊎◌, ◌==◌, inl, inr, List, length, take, slice_get, Option, Some, None, IfNone, refl, sym, ◌∙◌, ap, ap₂, subst, arith}
+use Rattle.std.proofs.Common.{◌≡◌, ◌≢◌, ℕ, ◌+◌, ◌<◌, ◌⊎◌, ◌==◌, inl, inr, List, length, take, slice_get, Option, Some, None, IfNone, IfSome, refl, sym, ◌∙◌, ap, ap₂, subst, arith}
 use Rattle.std.proofs.lemmas.Bool.{cases_eq, cond-true, cond-false, eq-eqb, ne_eqb}
 use Rattle.std.proofs.lemmas.Option.{same_Some, none-some, get_or_from_slice_get}
 use Rattle.mvt_plane.specs.Geometry.CommonPoint.{IsNamed}
 use Rattle.mvt_plane.specs.Geometry.EdgeOrder.{Segment, segment}
 use Rattle.mvt_plane.specs.Calls.EdgeOrder.{IsEndOf, edge_along}
-use Rattle.mvt_rules.specs.Meeting.{EdgeNumber, IsEdgeOf, IsShared, Follows, forward, backward, MeetsWrongly}
+use Rattle.mvt_rules.specs.Meeting.{IsEdgeOf, IsShared, Follows, forward, backward, MeetsWrongly}
+use Rattle.mvt_fault.specs.declared.ring.RingEdge.{RingEdge}
 use Rattle.mvt_plane.specs.Position.{Position}
 use Rattle.mvt_plane.specs.Geometry.RationalPoint.{RationalPoint, IsBounded, LiesOn, whole}
 use Rattle.mvt_plane.specs.Geometry.Ring.{next_round}
@@ -13,7 +14,7 @@ use Rattle.mvt_plane.specs.declared.geometry.edge.Edge.{Edge}
 use Rattle.mvt_plane.proofs.Points.CommonPoints.{named_is_common, only_at_the_shared_vertex}
 use Rattle.mvt_plane.proofs.Points.RationalPoints.{lies_on_reversed, begin_lies_on}
 use Rattle.mvt_sweep.specs.Calls.VertexOrder.{AreTogether}
-use Rattle.mvt_sweep.specs.Calls.SweepVertices.{AreSweepVertices, IsListOf, IsNamedFor, IsNamedMeeting, IsNamedPair, IsNumbered, NoneWrong, sweep_vertex_at, sweep_count, edge_at, next_at, plan_of, position_at, shared_at}
+use Rattle.mvt_sweep.specs.Calls.SweepVertices.{AreSweepVertices, IsListOf, IsNamedFor, IsNumbered, IsPointOf, NoneWrong, sweep_vertex_at, sweep_count, edge_at, next_at, plan_of, position_at, shared_at}
 use Rattle.mvt_sweep.specs.Work.{vertex_count}
 use Rattle.mvt_sweep.specs.Calls.Links.{AreLinked, next_in, position_in, previous_in}
 use Rattle.mvt_sweep.specs.Meeting.{IsMeetingOf, first_of, second_of}
@@ -24,7 +25,6 @@ use Rattle.mvt_sweep.specs.declared.meeting.Meeting.{Meeting}
 use Rattle.mvt_sweep.specs.declared.sweep.vertex.SweepVertex.{SweepVertex}
 use Rattle.mvt_sweep.specs.declared.sweep.vertices.SweepVertices.{SweepVertices}
 use Rattle.mvt_sweep.specs.declared.sweep.vertices.Pair.{Pair}
-use Rattle.mvt_sweep.specs.declared.sweep.vertices.NamedPair.{NamedPair}
 use Rattle.mvt_sweep.proofs.Vertices.VertexNumbers.{IsVertex, sweep_vertex_there, vertex_at, numbered_within, one_place, in_order, next_within, previous_within, next_previous, previous_next, next_but_one}
 use Rattle.mvt_sweep.proofs.Vertices.EdgeNumbers.{edge_read, within_ring}
 use Rattle.mvt_sweep.proofs.Vertices.SegmentEnds.{up, down, between_them, rising_between, end_first, end_second}
@@ -35,15 +35,15 @@ use Rattle.mvt_rules.proofs.Rings.EdgePairs.{one_edge}
 -- Vertices are linked
 
 -- the vertex after one, in the ring
-abbrev pub next_place : EdgeNumber → List Position → EdgeNumber
+abbrev pub next_place : RingEdge → List Position → RingEdge
 next_place place ring = record { ring = place.ring; edge = next_round (length ring) place.edge }
 
 -- and the one before it
-abbrev pub previous_place : EdgeNumber → List Position → EdgeNumber
+abbrev pub previous_place : RingEdge → List Position → RingEdge
 previous_place place ring = record { ring = place.ring; edge = previous_round (length ring) place.edge }
 
 -- the sweep's vertex after a vertex is the next one of its ring
-pub next_numbered : (rings : List (List Position)) (vertices : List SweepVertex) (number : ℕ) (place : EdgeNumber) → AreProperRings rings → IsListOf rings vertices
+pub next_numbered : (rings : List (List Position)) (vertices : List SweepVertex) (number : ℕ) (place : RingEdge) → AreProperRings rings → IsListOf rings vertices
     → (is : IsNumbered rings number place)
     → IsNumbered rings (next_in vertices number) (next_place place is.ring)
 next_numbered rings vertices number place proper are is = record {
@@ -54,7 +54,7 @@ next_numbered rings vertices number place proper are is = record {
 }
 
 -- the one before it the previous vertex
-pub previous_numbered : (rings : List (List Position)) (vertices : List SweepVertex) (number : ℕ) (place : EdgeNumber) → AreProperRings rings → IsListOf rings vertices
+pub previous_numbered : (rings : List (List Position)) (vertices : List SweepVertex) (number : ℕ) (place : RingEdge) → AreProperRings rings → IsListOf rings vertices
     → (is : IsNumbered rings number place)
     → IsNumbered rings (previous_in vertices number) (previous_place place is.ring)
 previous_numbered rings vertices number place proper are is = record {
@@ -65,7 +65,7 @@ previous_numbered rings vertices number place proper are is = record {
 }
 
 -- so it knows the one after it
-pub next_vertex : (rings : List (List Position)) (vertices : List SweepVertex) (number : ℕ) (place : EdgeNumber) → AreProperRings rings → IsListOf rings vertices
+pub next_vertex : (rings : List (List Position)) (vertices : List SweepVertex) (number : ℕ) (place : RingEdge) → AreProperRings rings → IsListOf rings vertices
     → (is : IsNumbered rings number place)
     → IsVertex rings vertices (next_in vertices number) (next_place place is.ring) is.ring
 unfolding next_numbered
@@ -73,7 +73,7 @@ next_vertex rings vertices number place proper are is =
     vertex_at rings vertices (next_in vertices number) (next_place place is.ring) proper are (next_numbered rings vertices number place proper are is)
 
 -- and the one before it
-pub previous_vertex : (rings : List (List Position)) (vertices : List SweepVertex) (number : ℕ) (place : EdgeNumber) → AreProperRings rings → IsListOf rings vertices
+pub previous_vertex : (rings : List (List Position)) (vertices : List SweepVertex) (number : ℕ) (place : RingEdge) → AreProperRings rings → IsListOf rings vertices
     → (is : IsNumbered rings number place)
     → IsVertex rings vertices (previous_in vertices number) (previous_place place is.ring) is.ring
 unfolding previous_numbered
@@ -218,6 +218,18 @@ tested_by_name vertices first second named point on_first on_second =
     only_at_the_shared_vertex (shared_at vertices first second) (edge_at vertices first) (edge_at vertices second) point named (on_segment_at vertices first point on_first)
     (on_segment_at vertices second point on_second)
 
+-- so they were where the answer is none
+pub tested_if_none : (vertices : SweepVertices) (first second : ℕ) (answer : Option RationalPoint) → IsNamed (shared_at vertices first second) (edge_at vertices first) (edge_at vertices second) answer
+    → IfNone answer (Tested (plan_of vertices) first second)
+tested_if_none vertices first second None named = tested_by_name vertices first second named
+tested_if_none vertices first second (Some point) named = tt
+
+-- and else it is their point
+pub point_by_name : (vertices : SweepVertices) (first second : ℕ) (answer : Option RationalPoint) → IsNamed (shared_at vertices first second) (edge_at vertices first) (edge_at vertices second) answer
+    → IfSome answer IsBounded → IfSome answer (IsPointOf vertices first second)
+point_by_name vertices first second None named bounded = tt
+point_by_name vertices first second (Some point) named bounded = record { named = named; bounded = bounded }
+
 -- where a point is named, they were not tested well
 pub named_not_tested : (vertices : SweepVertices) (first second : ℕ) (point : RationalPoint) → IsNamedFor vertices first second point → ¬ Tested (plan_of vertices) first second
 named_not_tested vertices first second point named tested =
@@ -266,7 +278,7 @@ together_meets vertices first second together tested =
 -- Meetings
 
 -- the edge that begins in a vertex of rings
-pub edge_of_sweep_vertex : (rings : List (List Position)) (vertices : SweepVertices) (number : ℕ) (place : EdgeNumber) → AreProperRings rings → AreSweepVertices rings vertices
+pub edge_of_sweep_vertex : (rings : List (List Position)) (vertices : SweepVertices) (number : ℕ) (place : RingEdge) → AreProperRings rings → AreSweepVertices rings vertices
     → IsNumbered rings number place
     → IsEdgeOf rings place (edge_at vertices number)
 edge_of_sweep_vertex rings vertices number place proper are is =
@@ -283,25 +295,25 @@ edge_of_sweep_vertex rings vertices number place proper are is =
     }
 
 -- the next vertex is that of the edge that follows
-next_is_follower : (rings : List (List Position)) (vertices : SweepVertices) (first second : ℕ) (one other : EdgeNumber) → AreProperRings rings → AreSweepVertices rings vertices
+next_is_follower : (rings : List (List Position)) (vertices : SweepVertices) (first second : ℕ) (one other : RingEdge) → AreProperRings rings → AreSweepVertices rings vertices
     → (is : IsNumbered rings first one)
     → IsNumbered rings second other → other.ring ≡ one.ring → other.edge ≡ next_round (length is.ring) one.edge → next_at vertices first ≡ second
 next_is_follower rings vertices first second one other proper are is its same follows =
     (vertex_at rings vertices.list.now first one proper are is).next ∙ ap₂ (λ (r e : ℕ). vertex_count (take r rings) + e) (sym same) (sym follows) ∙ sym its.numbered
 
 -- what vertices share is what the edges do
-sharing : (rings : List (List Position)) (vertices : SweepVertices) (first second : ℕ) (one other : EdgeNumber) → AreProperRings rings → AreSweepVertices rings vertices
+sharing : (rings : List (List Position)) (vertices : SweepVertices) (first second : ℕ) (one other : RingEdge) → AreProperRings rings → AreSweepVertices rings vertices
     → IsNumbered rings first one
     → IsNumbered rings second other → AreSharing rings one other (shared_at vertices first second)
 sharing rings vertices first second one other proper are is its = either (shared_way vertices first second)
   where
-    follow : (from to : ℕ) (here following : EdgeNumber) → (there : IsNumbered rings from here) → IsNumbered rings to following → next_at vertices from ≡ to
+    follow : (from to : ℕ) (here following : RingEdge) → (there : IsNumbered rings from here) → IsNumbered rings to following → next_at vertices from ≡ to
         → Follows rings here following (position_at vertices to)
     follow from to here following there its_there next =
         let moved = subst (λ (n : ℕ). IsNumbered rings n (next_place here there.ring)) next (next_numbered rings vertices.list.now from here proper are there) in
         let same : following ≡ next_place here there.ring = one_place rings to following (next_place here there.ring) its_there moved in
         follows_next rings here following (edge_at vertices to) there.ring (edge_of_sweep_vertex rings vertices to following proper are its_there) there.there
-        (ap (λ (p : EdgeNumber). p.ring) same) (ap (λ (p : EdgeNumber). p.edge) same)
+        (ap (λ (p : RingEdge). p.ring) same) (ap (λ (p : RingEdge). p.edge) same)
 
     either : SharedWay vertices first second → AreSharing rings one other (shared_at vertices first second)
     either (ahead next way) =
@@ -322,27 +334,23 @@ sharing rings vertices first second one other proper are is its = either (shared
             (next_is_follower rings vertices second first other one proper are its is same (next ∙ ap (λ (r : List Position). next_round (length r) other.edge) (sym alike))))
 
 -- a meeting of vertices is one of the rings
-pub meeting_of_rings : (rings : List (List Position)) (vertices : SweepVertices) (pair : NamedPair) (meeting : Meeting) → AreProperRings rings → AreSweepVertices rings vertices
-    → IsNamedPair vertices pair
-    → IsNamedMeeting rings pair meeting → IsMeetingOf rings meeting
-meeting_of_rings rings vertices pair meeting proper are is named =
-    let one = edge_at vertices pair.first in
-    let other = edge_at vertices pair.second in
-    let shared = shared_at vertices pair.first pair.second in
-    meeting_by_name rings meeting one other shared (in_order rings pair.first pair.second (first_of meeting) (second_of meeting) named.first named.second is.in_order)
-    (edge_of_sweep_vertex rings vertices pair.first (first_of meeting) proper are named.first) (edge_of_sweep_vertex rings vertices pair.second (second_of meeting) proper are named.second)
-    (sharing rings vertices pair.first pair.second (first_of meeting) (second_of meeting) proper are named.first named.second)
-    (subst (λ (point : RationalPoint). IsNamed shared one other (Some point)) (sym named.point) is.named) (subst IsBounded (sym named.point) is.bounded)
+pub meeting_of_rings : (rings : List (List Position)) (vertices : SweepVertices) (first second : ℕ) (meeting : Meeting) → AreProperRings rings → AreSweepVertices rings vertices
+    → first < second → IsPointOf vertices first second meeting.point → IsNumbered rings first (first_of meeting) → IsNumbered rings second (second_of meeting) → IsMeetingOf rings meeting
+meeting_of_rings rings vertices first second meeting proper are before is one other =
+    meeting_by_name rings meeting (edge_at vertices first) (edge_at vertices second) (shared_at vertices first second)
+    (in_order rings first second (first_of meeting) (second_of meeting) one other before)
+    (edge_of_sweep_vertex rings vertices first (first_of meeting) proper are one) (edge_of_sweep_vertex rings vertices second (second_of meeting) proper are other)
+    (sharing rings vertices first second (first_of meeting) (second_of meeting) proper are one other) is.named is.bounded
 
 -- an edge of rings begins in a vertex
-pub record HasSweepVertex (rings : List (List Position)) (vertices : SweepVertices) (number : EdgeNumber) (it : Edge) : Type 0 where
+pub record HasSweepVertex (rings : List (List Position)) (vertices : SweepVertices) (number : RingEdge) (it : Edge) : Type 0 where
   pub at : ℕ
   pub within : at < sweep_count vertices
   pub numbered : IsNumbered rings at number
   pub its_edge : edge_at vertices at ≡ it
 
 -- each does
-pub vertex_of_edge : (rings : List (List Position)) (vertices : SweepVertices) (number : EdgeNumber) (it : Edge) → AreProperRings rings → AreSweepVertices rings vertices
+pub vertex_of_edge : (rings : List (List Position)) (vertices : SweepVertices) (number : RingEdge) (it : Edge) → AreProperRings rings → AreSweepVertices rings vertices
     → IsEdgeOf rings number it
     → HasSweepVertex rings vertices number it
 vertex_of_edge rings vertices number it proper are is =
@@ -357,7 +365,7 @@ vertex_of_edge rings vertices number it proper are is =
 
 -- and where the vertices have none, the rings have none
 pub none_of_rings : (rings : List (List Position)) (vertices : SweepVertices) → AreProperRings rings → AreSweepVertices rings vertices → NoneWrong vertices
-    → (first second : EdgeNumber) (point : RationalPoint) → ¬ MeetsWrongly rings first second point
+    → (first second : RingEdge) (point : RationalPoint) → ¬ MeetsWrongly rings first second point
 none_of_rings rings vertices proper are none first second point meets =
     let one = vertex_of_edge rings vertices first meets.one proper are meets.one_there in
     let other = vertex_of_edge rings vertices second meets.other proper are meets.other_there in

@@ -1,7 +1,7 @@
 -- What a sweep notes of each ring: which other rings are around it.
 use Rattle.std.specs.Prelude.{◌≡◌, ◌≢◌, ◌⊎◌, ℕ, ◌*◌, ◌<◌, cond, Bool, false, not, IsTrue, ◌↔◌, List, [], length, slice_get, Some, None, ℤ, ◌≤ℤ◌}
 use Rattle.mvt_plane.specs.Geometry.Measure.{key_of}
-use Rattle.mvt_rules.specs.Meeting.{EdgeNumber}
+use Rattle.mvt_fault.specs.declared.ring.RingEdge.{RingEdge}
 use Rattle.mvt_plane.specs.Position.{Position}
 use Rattle.mvt_sweep.specs.Calls.SweepVertices.{AreSweepVertices, IsNumbered, position_at}
 use Rattle.mvt_sweep.specs.Meeting.{NoMeeting}
@@ -17,7 +17,7 @@ use Rattle.mvt_sweep.specs.declared.sweep.notes.RingNotes.{RingNotes}
 
 -- the list has the ring of every eighth vertex of the rings
 abbrev pub AreRingsOf : List (List Position) → List ℕ → Type 0
-AreRingsOf rings index = (place : ℕ) (at : EdgeNumber) → IsNumbered rings (8 * place) at → slice_get index place ≡ Some at.ring
+AreRingsOf rings index = (place : ℕ) (at : RingEdge) → IsNumbered rings (8 * place) at → slice_get index place ≡ Some at.ring
 
 -- so has the index of proper rings, whose vertices these are
 pub record IsIndexOf (rings : List (List Position)) (vertices : SweepVertices) (index : List ℕ) : Type 0 where
@@ -65,7 +65,7 @@ pub record AreListsNotedTo (rings : List (List Position)) (vertices : SweepVerti
   pub are : AreSweepVertices rings vertices
   pub numbers : AreRingsOf rings index
   pub count : length notes ≡ length rings
-  pub there : (number : ℕ) (at : EdgeNumber) → IsNumbered rings number at → key_of (position_at vertices number) ≤ℤ key → IsNoted notes at.ring
+  pub there : (number : ℕ) (at : RingEdge) → IsNumbered rings number at → key_of (position_at vertices number) ≤ℤ key → IsNoted notes at.ring
   pub right : NoMeeting rings → (ring : ℕ) (around : Around) → slice_get notes ring ≡ Some around → around ≢ Unknown → IsNoteOf rings notes ring around
   pub listed : (ring : ℕ) → IsNoted notes ring → (at : ℕ) × (slice_get come_to at ≡ Some ring)
   pub only : (at ring : ℕ) → slice_get come_to at ≡ Some ring → IsNoted notes ring

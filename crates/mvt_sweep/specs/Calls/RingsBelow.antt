@@ -4,7 +4,8 @@ use Rattle.mvt_plane.specs.Geometry.Below.{HasOddBelow, IsNotAbove, PassesBelow}
 use Rattle.mvt_plane.specs.Geometry.Inside.{Differ}
 use Rattle.mvt_plane.specs.Geometry.Measure.{key_of}
 use Rattle.mvt_plane.specs.Position.{Position}
-use Rattle.mvt_rules.specs.Meeting.{EdgeNumber, IsEdgeOf}
+use Rattle.mvt_rules.specs.Meeting.{IsEdgeOf}
+use Rattle.mvt_fault.specs.declared.ring.RingEdge.{RingEdge}
 use Rattle.mvt_plane.specs.declared.geometry.edge.Edge.{Edge}
 
 -- an odd number of all the rings' edges pass below the position
@@ -14,16 +15,16 @@ HaveOddBelow position (ring ∷ rest) = Differ (HasOddBelow position ring) (Have
 
 -- no edge of the rings passes below the position
 abbrev pub HaveNoneBelow : Position → List (List Position) → Type 0
-HaveNoneBelow position rings = (number : EdgeNumber) (edge : Edge) → IsEdgeOf rings number edge → ¬ PassesBelow position edge
+HaveNoneBelow position rings = (number : RingEdge) (edge : Edge) → IsEdgeOf rings number edge → ¬ PassesBelow position edge
 
 -- an edge of this ring passes below the position, and no other edge that does is above it
 pub record IsRingBelow (position : Position) (rings : List (List Position)) (ring : ℕ) : Type 0 where
-  pub number : EdgeNumber
+  pub number : RingEdge
   pub of_ring : number.ring ≡ ring
   pub edge : Edge
   pub there : IsEdgeOf rings number edge
   pub below : PassesBelow position edge
-  pub none_above : (another : EdgeNumber) (other : Edge) → IsEdgeOf rings another other → PassesBelow position other → IsNotAbove position other edge
+  pub none_above : (another : RingEdge) (other : Edge) → IsEdgeOf rings another other → PassesBelow position other → IsNotAbove position other edge
 
 -- the vertex of a ring that the line of a sweep comes to first: the one of least key
 pub record IsLeastVertex (rings : List (List Position)) (ring : ℕ) (position : Position) : Type 0 where

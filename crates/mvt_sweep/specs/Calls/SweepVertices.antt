@@ -3,20 +3,17 @@ use Rattle.std.specs.Prelude.{◌≡◌, ◌≢◌, ◌-◌, ◌+◌, ◌==◌, 
 use Rattle.mvt_plane.specs.Geometry.CommonPoint.{IsNamed}
 use Rattle.mvt_plane.specs.Geometry.EdgeOrder.{segment_between}
 use Rattle.mvt_plane.specs.Geometry.Measure.{orientation}
-use Rattle.mvt_rules.specs.Meeting.{EdgeNumber}
+use Rattle.mvt_fault.specs.declared.ring.RingEdge.{RingEdge}
 use Rattle.mvt_plane.specs.Position.{Position}
 use Rattle.mvt_plane.specs.Geometry.RationalPoint.{RationalPoint, IsBounded}
 use Rattle.mvt_plane.specs.declared.geometry.edge.Edge.{Edge}
 use Rattle.mvt_sweep.specs.Calls.Links.{sweep_vertex_in, next_in, position_in, previous_in}
-use Rattle.mvt_sweep.specs.Meeting.{first_of, second_of}
 use Rattle.mvt_sweep.specs.Calls.Sweep.{Plan, IsWrong}
 use Rattle.mvt_sweep.specs.TurnVertices.{is_turn}
 use Rattle.mvt_sweep.specs.Work.{vertex_count}
-use Rattle.mvt_sweep.specs.declared.meeting.Meeting.{Meeting}
 use Rattle.mvt_sweep.specs.declared.sweep.vertex.SweepVertex.{SweepVertex}
 use Rattle.mvt_sweep.specs.declared.sweep.vertices.SweepVertices.{SweepVertices}
 use Rattle.mvt_sweep.specs.declared.sweep.vertices.Pair.{Pair}
-use Rattle.mvt_sweep.specs.declared.sweep.vertices.NamedPair.{NamedPair}
 
 -- in a ring of so many vertices: the number of the last vertex for the first one, that of the first for the last one,
 -- and its own for every other vertex
@@ -27,7 +24,7 @@ far_end_of count number = cond (number == 0) (count - 1) (cond (number + 1 == co
 
 -- The vertices of all rings are numbered ring by ring. This number is that of the vertex at this place: the ring, and
 -- the number of the vertex (and of the edge that begins in it) in the ring
-pub record IsNumbered (rings : List (List Position)) (number : ℕ) (place : EdgeNumber) : Type 0 where
+pub record IsNumbered (rings : List (List Position)) (number : ℕ) (place : RingEdge) : Type 0 where
   pub ring : List Position
   pub there : slice_get rings place.ring ≡ Some ring
   pub within : place.edge < length ring
@@ -35,7 +32,7 @@ pub record IsNumbered (rings : List (List Position)) (number : ℕ) (place : Edg
 
 -- What the sweep has by this number is the vertex of the rings that has it
 pub record IsSweepVertexOf (rings : List (List Position)) (number : ℕ) (vertex : SweepVertex) : Type 0 where
-  pub place : EdgeNumber
+  pub place : RingEdge
   pub is : IsNumbered rings number place
   pub here : slice_get is.ring place.edge ≡ Some vertex.position
   pub far_end : vertex.far_end ≡ vertex_count (take place.ring rings) + far_end_of (length is.ring) place.edge
@@ -117,17 +114,9 @@ pub record IsMeetingAt (vertices : SweepVertices) (pair : Pair) : Type 0 where
   pub named : IsNamedFor vertices pair.first pair.second point
 
 -- and this is the point
-pub record IsNamedPair (vertices : SweepVertices) (pair : NamedPair) : Type 0 where
-  pub in_order : pair.first < pair.second
-  pub known : pair.second < sweep_count vertices
-  pub named : IsNamedFor vertices pair.first pair.second pair.point
-  pub bounded : IsBounded pair.point
-
--- the meeting is that of this pair of edges, which are named by ring and ordinal
-pub record IsNamedMeeting (rings : List (List Position)) (pair : NamedPair) (meeting : Meeting) : Type 0 where
-  pub first : IsNumbered rings pair.first (first_of meeting)
-  pub second : IsNumbered rings pair.second (second_of meeting)
-  pub point : meeting.point ≡ pair.point
+pub record IsPointOf (vertices : SweepVertices) (first second : ℕ) (point : RationalPoint) : Type 0 where
+  pub named : IsNamedFor vertices first second point
+  pub bounded : IsBounded point
 
 -- no two of these edges meet wrongly
 abbrev pub NoneWrong : SweepVertices → Type 0

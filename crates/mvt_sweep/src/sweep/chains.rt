@@ -31,7 +31,6 @@ pub(crate) struct Chains {
 impl Chains {
     ghost use Rattle.std.specs.Prelude.{◌≡◌, ◌<◌, ◌≤◌, ◌==◌, ℕ, [], IfOk, cond, length, slice_set};
     ghost use Rattle.mvt_sweep.specs.Calls.Chains.{AreChains, above_of, below_of, edge_beside, edge_of, outside_of};
-    ghost use Rattle.mvt_sweep.specs.Calls.SweepVertices.{sweep_count};
 
     /// No chains, of the edges of these vertices. The only error is that memory was refused.
     pub(crate) fn new(alloc: Global, vertices: &SweepVertices) -> Result<Chains, AllocError>

@@ -1,5 +1,5 @@
 //! What a sweep notes of the rings that its line comes to.
-ghost use Rattle.std.specs.Prelude.{◌≡◌, ℕ, ℤ, ◌<◌, ◌++◌, List, [], IfOk, OnOk, Some, length, replicate, slice_get};
+ghost use Rattle.std.specs.Prelude.{◌≡◌, ℕ, ℤ, ◌<◌, List, [], IfOk, OnOk, Some, length, slice_get};
 ghost use Rattle.mvt_plane.specs.Position.{Position};
 ghost use Rattle.mvt_sweep.specs.Calls.SweepVertices.{AreSweepVertices, position_at};
 ghost use Rattle.mvt_sweep.specs.Calls.RingNotes.{AreNotedTo, IsNew, IsNoteAbove};

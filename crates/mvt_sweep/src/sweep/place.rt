@@ -1,5 +1,5 @@
 //! The place of a vertex among the chains that the line of a sweep meets.
-ghost use Rattle.std.specs.Prelude.{◌≡◌, ◌↔◌, ◌*◌, ◌<◌, ◌≤◌, IfSome, IsTrue, List, ℕ, drop, length, take};
+ghost use Rattle.std.specs.Prelude.{◌↔◌, ◌*◌, ◌<◌, ◌≤◌, IfSome, IsTrue, List, ℕ, drop, length, take};
 ghost use Rattle.mvt_plane.specs.Counted.{ticked};
 ghost use Rattle.mvt_sweep.specs.Calls.Chain.{EachOne};
 ghost use Rattle.mvt_sweep.specs.Calls.Chains.{AreChains, edge_of, edges_of, outside_of};

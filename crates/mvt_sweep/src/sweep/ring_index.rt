@@ -1,6 +1,6 @@
 //! Which ring a vertex is of, from the rings of every eighth one.
 ghost use Rattle.std.specs.Prelude.{◌≡◌, ◌<◌, IfOk, List};
-ghost use Rattle.mvt_rules.specs.Meeting.{EdgeNumber};
+ghost use Rattle.mvt_fault.specs.declared.ring.RingEdge.{RingEdge};
 ghost use Rattle.mvt_plane.specs.Position.{Position};
 ghost use Rattle.mvt_sweep.specs.Calls.SweepVertices.{IsNumbered, sweep_count};
 ghost use Rattle.mvt_sweep.specs.Calls.RingNotes.{AreRingsOf, IsIndexOf};
@@ -49,7 +49,7 @@ impl RingIndex {
         requires known { number < sweep_count vertices.now }
         requires indexed { (rings : List (List Position))
             × IsIndexOf rings vertices.now self.now.rings.items }
-        ensures { (rings : List (List Position)) (at : EdgeNumber)
+        ensures { (rings : List (List Position)) (at : RingEdge)
             → IsIndexOf rings vertices.now self.now.rings.items → IsNumbered rings number at
             → result ≡ at.ring }
     {

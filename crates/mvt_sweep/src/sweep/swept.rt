@@ -10,7 +10,7 @@ ghost use Rattle.mvt_sweep.specs.Rings.{rings_of, AreProperRings};
 ghost use Rattle.mvt_sweep.specs.Swept.{IsSweptAnswer, met_in};
 ghost use Rattle.mvt_sweep.specs.Calls.Swept.{IsSweptWith};
 
-use crate::meeting::{Meeting, named_meeting};
+use crate::meeting::{Meeting, meeting_of_pair};
 use crate::sweep::listing::list_of;
 use crate::sweep::notes::{Notes, RingNotes};
 use crate::sweep::order::{one_position, order_of};
@@ -120,5 +120,6 @@ fn meeting_found(
     ensures untested { IfNone found (count.new ≡ count.old) }
     ensures tested { IfSome result (λ _. ticked count.old.tests ≤ count.new.tests) }
 {
-    named_meeting(rings, vertices.named(found, count))
+    let pair = found?;
+    meeting_of_pair(rings, vertices, pair, count)
 }

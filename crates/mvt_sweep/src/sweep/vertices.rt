@@ -13,15 +13,6 @@ pub(crate) struct Pair {
     pub(crate) second: usize,
 }
 
-/// The same, with the point that they have in common.
-#[derive(Clone, Copy)]
-pub(crate) struct NamedPair {
-    pub(crate) first: usize,
-    pub(crate) second: usize,
-    /// The point as `common` names it for the first and the second edge.
-    pub(crate) point: Hpoint,
-}
-
 /// The vertices of rings, ring by ring: next and previous lead round in each. Their list is lent.
 #[derive(Clone, Copy)]
 pub(crate) struct SweepVertices<'a> {
@@ -31,11 +22,11 @@ pub(crate) struct SweepVertices<'a> {
 }
 
 impl<'a> SweepVertices<'a> {
-    ghost use Rattle.std.specs.Prelude.{◌≡◌, ◌≢◌, ◌<◌, ◌≤◌, IfNone, IfSome, None};
+    ghost use Rattle.std.specs.Prelude.{◌≡◌, ◌≢◌, ◌<◌, IfNone, IfSome};
     ghost use Rattle.mvt_plane.specs.Counted.{ticked};
     ghost use Rattle.mvt_plane.specs.Geometry.Measure.{key_of};
     ghost use Rattle.mvt_sweep.specs.Work.{AddsWork};
-    ghost use Rattle.mvt_sweep.specs.Calls.SweepVertices.{IsMeetingAt, IsNamedPair, sweep_count, edge_at, is_first_at, next_at, plan_of, position_at, previous_at, shared_at};
+    ghost use Rattle.mvt_sweep.specs.Calls.SweepVertices.{IsMeetingAt, IsPointOf, sweep_count, edge_at, is_first_at, next_at, plan_of, position_at, previous_at, shared_at};
     ghost use Rattle.mvt_sweep.specs.Calls.Sweep.{Tested};
 
     /// The vertices of a list.
@@ -160,46 +151,27 @@ impl<'a> SweepVertices<'a> {
         ensures counted { AddsWork 1 0 0 count.old count.new }
         ensures tested { count.new.tests ≡ ticked count.old.tests }
     {
-        self.named_in_order(first, second, count)?;
+        self.point_in_order(first, second, count)?;
         Some(Pair { first, second })
     }
 
-    /// The same, with the point.
+    /// The point of such a meeting, as `common` names it for the first and the second edge.
     #[inline(always)]
-    pub(crate) fn named_in_order(
+    pub(crate) fn point_in_order(
         &self,
         first: usize,
         second: usize,
         count: &mut Count,
-    ) -> Option<NamedPair>
+    ) -> Option<Hpoint>
         requires in_order { first < second }
         requires known { second < sweep_count self.now }
         ensures none { IfNone result (Tested (plan_of self.now) first second) }
-        ensures some { IfSome result (IsNamedPair self.now) }
-        ensures edges { IfSome result (λ pair. (pair.first ≡ first) × (pair.second ≡ second)) }
+        ensures some { IfSome result (IsPointOf self.now first second) }
         ensures counted { AddsWork 1 0 0 count.old count.new }
         ensures tested { count.new.tests ≡ ticked count.old.tests }
     {
         let shared = self.shared(first, second);
-        let point = common(self.edge(first), self.edge(second), shared, count)?;
-        Some(NamedPair {
-            first,
-            second,
-            point,
-        })
-    }
-
-    /// The meeting that a sweep found, if any, with its point: one more test.
-    pub(crate) fn named(&self, found: Option<Pair>, count: &mut Count) -> Option<NamedPair>
-        requires { IfSome found (IsMeetingAt self.now) }
-        ensures none { IfNone result (found ≡ None) }
-        ensures some { IfSome result (IsNamedPair self.now) }
-        ensures counted { AddsWork 1 0 0 count.old count.new }
-        ensures untested { IfNone found (count.new ≡ count.old) }
-        ensures tested { IfSome result (λ _. ticked count.old.tests ≤ count.new.tests) }
-    {
-        let Pair { first, second } = found?;
-        self.named_in_order(first, second, count)
+        common(self.edge(first), self.edge(second), shared, count)
     }
 
     /// The vertex that two edges share as neighbours in a ring.

@@ -1,6 +1,5 @@
 use Rattle.std.proofs.lemmas.Int.{to_z-of_z}
 use mir.Syntax.{w128}
-use Rattle.mvt_rules.specs.PolygonFault.{number_of}
 use Rattle.mvt_confirm.proofs.Shapes.EdgeMeetings.{meeting_in_order}
 use Rattle.mvt_confirm.proofs.edge_tests.meets_in_order.Goals as goal
 
@@ -11,4 +10,4 @@ returns-in-Some c rings are =
     let w = to_z-of_z w128 c.args.w c.ranges.w in
     let bounded = rw (x, y, w) at c.in-Some.ensures.in_range in
     let same = rw (x, y, w) at c.in-Some.ensures.point in
-    meeting_in_order rings (number_of c.args.first.now.number) (number_of c.args.second.now.number) c.in-Some.point _ same (c.comes_before.ensures.0 c.if-not-comes_before.false) bounded (c.meets_at.ensures rings are)
+    meeting_in_order rings c.args.first.now.number c.args.second.now.number c.in-Some.point _ same (c.comes_before.ensures.0 c.if-not-comes_before.false) bounded (c.meets_at.ensures rings are)

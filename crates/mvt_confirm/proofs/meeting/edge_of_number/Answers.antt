@@ -1,5 +1,4 @@
 use Rattle.mvt_plane.specs.Geometry.Ring.{edges}
-use Rattle.mvt_rules.specs.PolygonFault.{number_of}
 use Rattle.mvt_confirm.proofs.Shapes.NumberedEdges.{counted_by_edges, too_few_edges, too_few_rings}
 use Rattle.mvt_confirm.proofs.meeting.edge_of_number.Goals as goal
 
@@ -10,7 +9,7 @@ returns-in_err-walk-clause-none c = rw c.from_residual.ensures (λ rings edge dr
 pub returns-in_err-edge-clause-none : goal.returns-in_err-edge-clause-none
 returns-in_err-edge-clause-none c = rw c.from_residual-in_err-edge.ensures (λ rings edge draws is.
     let ring = c.in_ok-walk.ensures.there rings (c.vertices.ensures rings draws) in
-    too_few_edges rings (number_of c.args.number) ring.0 edge ring.1 (c.in_err-edge.ensures.none (edges ring.0) ring.2) is)
+    too_few_edges rings c.args.number ring.0 edge ring.1 (c.in_err-edge.ensures.none (edges ring.0) ring.2) is)
 
 pub returns-clause-there : goal.returns-clause-there
 returns-clause-there c = λ rings draws.

@@ -1,12 +1,10 @@
-use Rattle.std.proofs.Common.{◌≡◌, ℕ, ◌+◌, ◌≤◌, false, [], ◌∷◌, length, Option, IfNone, IfOk, sym, subst, arith}
+use Rattle.std.proofs.Common.{◌≡◌, ◌+◌, false, [], ◌∷◌, length, sym, subst, arith}
 use Rattle.mvt_feature.specs.Calls.Alone.{IsAloneAnswer}
-use Rattle.mvt_sweep.specs.Work.{vertex_count}
-use Rattle.mvt_feature.specs.Feature.{AddsSweeps, IsFeatureAnswer}
+use Rattle.mvt_feature.specs.Feature.{IsFeatureAnswer}
 use Rattle.mvt_polygon.specs.Polygons.{ArePolygons}
 use Rattle.mvt_sweep.specs.Rings.{rings_of}
-use Rattle.mvt_feature.specs.declared.feature.FeatureFault.{FeatureFault}
-use Rattle.mvt_status.specs.Counts.{bits, raised}
-use Rattle.mvt_feature.proofs.Features.PartedAnswers.{alone_sweeps, one_answer, one_vertices, if_ok, if_ok_none}
+use Rattle.mvt_status.specs.Counts.{bits}
+use Rattle.mvt_feature.proofs.Features.PartedAnswers.{alone_sweeps, one_answer, one_counted_by_answer, if_ok}
 use Rattle.mvt_feature.proofs.feature.check_feature.Goals as goal
 
 pub returns-then-len-eq1-clause-answer : goal.returns-then-len-eq1-clause-answer
@@ -31,19 +29,10 @@ returns-then-len-eq1-clause-apart c =
     let listed : ArePolygons rings polygons = subst (ArePolygons rings) (sym c.deref.ensures.value) c.in_ok-polygons.ensures in
     λ none. alone_sweeps rings polygons (false ∷ []) c.requires.sound listed 2 c.args.count.now c.fault_alone.new.count (omega arith) c.fault_alone.ensures.counted
 
-pub returns-then-len-eq1-clause-valid : goal.returns-then-len-eq1-clause-valid
-returns-then-len-eq1-clause-valid c =
-    let rings = rings_of c.args.rings.now in
-    let polygons = c.deref.result.now in
-    let listed : ArePolygons rings polygons = subst (ArePolygons rings) (sym c.deref.ensures.value) c.in_ok-polygons.ensures in
-    if_ok_none c.fault_alone.result (AddsSweeps 1 (vertex_count rings) c.args.count.now c.fault_alone.new.count)
-    (alone_sweeps rings polygons (false ∷ []) c.requires.sound listed 1 c.args.count.now c.fault_alone.new.count (omega arith) c.fault_alone.ensures.counted)
-
-pub returns-then-len-eq1-clause-least : goal.returns-then-len-eq1-clause-least
-returns-then-len-eq1-clause-least c =
+pub returns-then-len-eq1-clause-by_answer : goal.returns-then-len-eq1-clause-by_answer
+returns-then-len-eq1-clause-by_answer c =
     let rings = rings_of c.args.rings.now in
     let polygons = c.deref.result.now in
     let listed : ArePolygons rings polygons = subst (ArePolygons rings) (sym c.deref.ensures.value) c.in_ok-polygons.ensures in
     let one : length polygons ≡ 1 = omega (arith, c.deref.ensures.len, c.len.ensures, c.if-len-eq1.true) in
-    subst (λ (vertices : ℕ). IfOk c.fault_alone.result (λ (found : Option FeatureFault). IfNone found (raised vertices c.args.count.now.probes ≤ c.fault_alone.new.count.probes)))
-    (one_vertices rings polygons c.requires.sound listed one) c.fault_alone.ensures.least
+    one_counted_by_answer rings polygons c.args.count.now c.fault_alone.new.count c.fault_alone.result c.requires.sound listed one c.fault_alone.ensures.counted c.fault_alone.ensures.least c.fault_alone.ensures.found

@@ -1,11 +1,8 @@
-use Rattle.std.proofs.Common.{◌≡◌, ◌+◌, ◌≤◌, length, ◌∙◌, ap, arith}
-use Rattle.mvt_feature.specs.Calls.Alone.{earlier_of, vertices_alone}
-use Rattle.mvt_sweep.specs.Work.{vertex_count}
-use Rattle.mvt_feature.specs.Feature.{AddsSweeps}
-use Rattle.mvt_feature.specs.Calls.Gathered.{gathered_rings, fault_moved}
+use Rattle.std.proofs.Common.{◌≡◌, ◌+◌, length, ◌∙◌, ap, arith}
+use Rattle.mvt_feature.specs.Calls.Gathered.{gathered_rings}
 use Rattle.mvt_sweep.specs.Rings.{rings_of}
-use Rattle.mvt_status.specs.Counts.{bits, raised}
-use Rattle.mvt_feature.proofs.Features.PartedAnswers.{both_none, if_none, alone_sweeps, all_able, all_drawn, both_sweeps, both_counted, both_apart, both_found, both_least, all_within, both_answer, some_sweeps}
+use Rattle.mvt_status.specs.Counts.{bits}
+use Rattle.mvt_feature.proofs.Features.PartedAnswers.{alone_sweeps, all_able, all_drawn, both_counted, both_apart, both_counted_by_answer, all_within, both_answer, some_sweeps}
 use Rattle.mvt_feature.proofs.Features.QuickAnswers.{quick_of_exact}
 use Rattle.mvt_feature.proofs.feature.check_parted.Goals as goal
 
@@ -111,46 +108,13 @@ returns-clause-answer c =
     both_answer rings polygons marks c.requires.sound c.requires.listed all gathered c.requires.marked c.in_ok-gathered.gathered.ring_of.items c.in_ok-gathered.gathered.polygon_of.items c.in_ok-gathered.ensures.places c.in_ok-gathered.ensures.numbers
     c.in_ok-alone.alone c.in_ok-found.found c.in_feature.result c.first_of.result c.in_ok-alone.ensures.answer c.in_ok-found.ensures.answer c.in_feature.ensures c.first_of.ensures
 
-pub returns-clause-valid : goal.returns-clause-valid
-returns-clause-valid c =
+pub returns-clause-by_answer : goal.returns-clause-by_answer
+returns-clause-by_answer c =
     let rings = rings_of c.args.rings.now in
     let polygons = c.args.polygons.now in
     let marks = c.args.crowded.now in
     let all = rings_of c.deref.result.now in
     let gathered : all ≡ gathered_rings rings polygons marks (length polygons) = ap rings_of c.deref.ensures.value ∙ c.in_ok-gathered.ensures.rings in
-    let moved = fault_moved polygons c.in_ok-gathered.gathered.ring_of.items c.in_ok-gathered.gathered.polygon_of.items in
-    let start = c.args.count.now in
-    let between = c.fault_alone.new.count in
-    let after = c.check_together.new.count in
-    let own = vertices_alone rings polygons marks (length polygons) in
-    both_none (AddsSweeps 1 own start between) (AddsSweeps 1 (vertex_count all) between after) (AddsSweeps 1 (vertex_count rings) start after) c.in_ok-alone.alone c.in_ok-found.found moved c.first_of.result
-    (c.first_of.ensures ∙ ap (earlier_of c.in_ok-alone.alone) c.in_feature.ensures)
-    (if_none (AddsSweeps 1 own start between) c.in_ok-alone.alone c.fault_alone.ensures.counted) c.in_ok-found.ensures.valid
-    (both_sweeps rings polygons marks c.requires.sound c.requires.listed all gathered 1 start between after (omega arith))
-
-pub returns-clause-least : goal.returns-clause-least
-returns-clause-least c =
-    let rings = rings_of c.args.rings.now in
-    let polygons = c.args.polygons.now in
-    let marks = c.args.crowded.now in
-    let all = rings_of c.deref.result.now in
-    let gathered : all ≡ gathered_rings rings polygons marks (length polygons) = ap rings_of c.deref.ensures.value ∙ c.in_ok-gathered.ensures.rings in
-    let moved = fault_moved polygons c.in_ok-gathered.gathered.ring_of.items c.in_ok-gathered.gathered.polygon_of.items in
-    let start = c.args.count.now in
-    let between = c.fault_alone.new.count in
-    let after = c.check_together.new.count in
-    let own = vertices_alone rings polygons marks (length polygons) in
-    both_none (raised own start.probes ≤ between.probes) (raised (vertex_count all) between.probes ≤ after.probes) (raised (vertex_count rings) start.probes ≤ after.probes) c.in_ok-alone.alone c.in_ok-found.found moved c.first_of.result
-    (c.first_of.ensures ∙ ap (earlier_of c.in_ok-alone.alone) c.in_feature.ensures) c.in_ok-alone.ensures.least c.in_ok-found.ensures.least
-    (both_least rings polygons marks c.requires.sound c.requires.listed all gathered start between after)
-
-pub returns-clause-found : goal.returns-clause-found
-returns-clause-found c =
-    let rings = rings_of c.args.rings.now in
-    let polygons = c.args.polygons.now in
-    let marks = c.args.crowded.now in
-    let all = rings_of c.deref.result.now in
-    let gathered : all ≡ gathered_rings rings polygons marks (length polygons) = ap rings_of c.deref.ensures.value ∙ c.in_ok-gathered.ensures.rings in
-    both_found rings polygons marks c.requires.sound c.requires.listed all gathered c.requires.marked c.in_ok-gathered.gathered.ring_of.items c.in_ok-gathered.gathered.polygon_of.items c.in_ok-gathered.ensures.places c.in_ok-gathered.ensures.numbers
+    both_counted_by_answer rings polygons marks c.requires.sound c.requires.listed all gathered c.requires.marked c.in_ok-gathered.gathered.ring_of.items c.in_ok-gathered.gathered.polygon_of.items c.in_ok-gathered.ensures.places c.in_ok-gathered.ensures.numbers
     (bits (length polygons) + 2) c.in_ok-alone.alone c.in_ok-found.found c.in_feature.result c.first_of.result c.args.count.now c.fault_alone.new.count c.check_together.new.count (quick_of_exact all c.in_ok-found.found c.in_ok-found.ensures.answer) c.in_feature.ensures c.first_of.ensures
-    c.fault_alone.ensures.counted (some_sweeps rings polygons marks c.requires.sound c.requires.listed all gathered c.fault_alone.new.count c.check_together.new.count c.check_together.ensures.counted) c.in_ok-alone.ensures.found c.in_ok-found.ensures.found
+    c.fault_alone.ensures.counted (some_sweeps rings polygons marks c.requires.sound c.requires.listed all gathered c.fault_alone.new.count c.check_together.new.count c.check_together.ensures.counted) c.in_ok-alone.ensures.least c.in_ok-alone.ensures.found c.in_ok-found.ensures.by_answer

@@ -4,7 +4,7 @@
 
 ghost use Rattle.std.specs.Prelude.{ℕ, [], ◌∷◌};
 ghost use Rattle.mvt_plane.specs.Geometry.Examples.{fraction, triangle, square};
-ghost use Rattle.mvt_rules.specs.Laws.Examples.{edge_number, rings_from, two_polygons, crossed, spike, touched, pinched, touching_hole, hole_beside, hole_in_hole, island_in_hole, closed_twice, flat};
+ghost use Rattle.mvt_rules.specs.Laws.Examples.{ring_edge, rings_from, two_polygons, crossed, spike, touched, pinched, touching_hole, hole_beside, hole_in_hole, island_in_hole, closed_twice, flat};
 ghost use Rattle.mvt_rules.specs.Meeting.{MeetsWrongly};
 ghost use Rattle.mvt_rules.specs.Nesting.{IsOutside, IsInHole};
 ghost use Rattle.mvt_rules.specs.Polygon.{PolygonRings, IsPolygon};
@@ -38,38 +38,38 @@ pub fn polygons()
 /// Edges that cross, overlap or touch meet wrongly, neighbours too, and vertices at one position
 /// don't make neighbours.
 pub fn wrong_meetings()
-    ensures crossing { MeetsWrongly (crossed ∷ []) (edge_number 0 0) (edge_number 0 2)
+    ensures crossing { MeetsWrongly (crossed ∷ []) (ring_edge 0 0) (ring_edge 0 2)
         (fraction 800 800 180) }
-    ensures neighbours_overlap { MeetsWrongly (spike ∷ []) (edge_number 0 0) (edge_number 0 1)
+    ensures neighbours_overlap { MeetsWrongly (spike ∷ []) (ring_edge 0 0) (ring_edge 0 1)
         (fraction 5 0 1) }
-    ensures vertex_on_edge { MeetsWrongly (touched ∷ []) (edge_number 0 1) (edge_number 0 3)
+    ensures vertex_on_edge { MeetsWrongly (touched ∷ []) (ring_edge 0 1) (ring_edge 0 3)
         (fraction 10 5 1) }
-    ensures end_on_neighbour { MeetsWrongly (touched ∷ []) (edge_number 0 1) (edge_number 0 2)
+    ensures end_on_neighbour { MeetsWrongly (touched ∷ []) (ring_edge 0 1) (ring_edge 0 2)
         (fraction 10 5 1) }
-    ensures vertices_at_one_position { MeetsWrongly (pinched ∷ []) (edge_number 0 1)
-        (edge_number 0 4) (fraction 5 5 1) }
-    ensures end_at_another_beginning { MeetsWrongly (pinched ∷ []) (edge_number 0 1)
-        (edge_number 0 5) (fraction 5 5 1) }
-    ensures rings_touch { MeetsWrongly (square ∷ touching_hole ∷ []) (edge_number 0 3)
-        (edge_number 1 0) (fraction 0 5 1) }
-    ensures one_ring_twice { MeetsWrongly (square ∷ square ∷ []) (edge_number 0 0) (edge_number 1 0)
+    ensures vertices_at_one_position { MeetsWrongly (pinched ∷ []) (ring_edge 0 1)
+        (ring_edge 0 4) (fraction 5 5 1) }
+    ensures end_at_another_beginning { MeetsWrongly (pinched ∷ []) (ring_edge 0 1)
+        (ring_edge 0 5) (fraction 5 5 1) }
+    ensures rings_touch { MeetsWrongly (square ∷ touching_hole ∷ []) (ring_edge 0 3)
+        (ring_edge 1 0) (fraction 0 5 1) }
+    ensures one_ring_twice { MeetsWrongly (square ∷ square ∷ []) (ring_edge 0 0) (ring_edge 1 0)
         (fraction 5 0 1) }
-    ensures corners_of_two_rings { MeetsWrongly (square ∷ square ∷ []) (edge_number 0 0)
-        (edge_number 1 1) (fraction 10 0 1) }
+    ensures corners_of_two_rings { MeetsWrongly (square ∷ square ∷ []) (ring_edge 0 0)
+        (ring_edge 1 1) (fraction 10 0 1) }
 {}
 
 /// Neighbours that have just their shared vertex in common don't, and no edge meets itself.
 pub fn rightful_meetings()
     ensures neighbours { (point : RationalPoint)
-        → ¬ MeetsWrongly (triangle ∷ []) (edge_number 0 0) (edge_number 0 1) point }
+        → ¬ MeetsWrongly (triangle ∷ []) (ring_edge 0 0) (ring_edge 0 1) point }
     ensures neighbours_back { (point : RationalPoint)
-        → ¬ MeetsWrongly (triangle ∷ []) (edge_number 0 1) (edge_number 0 0) point }
+        → ¬ MeetsWrongly (triangle ∷ []) (ring_edge 0 1) (ring_edge 0 0) point }
     ensures neighbours_round { (point : RationalPoint)
-        → ¬ MeetsWrongly (triangle ∷ []) (edge_number 0 0) (edge_number 0 2) point }
+        → ¬ MeetsWrongly (triangle ∷ []) (ring_edge 0 0) (ring_edge 0 2) point }
     ensures opposite_edges { (point : RationalPoint)
-        → ¬ MeetsWrongly (square ∷ []) (edge_number 0 0) (edge_number 0 2) point }
+        → ¬ MeetsWrongly (square ∷ []) (ring_edge 0 0) (ring_edge 0 2) point }
     ensures itself { (point : RationalPoint)
-        → ¬ MeetsWrongly (square ∷ []) (edge_number 0 0) (edge_number 0 0) point }
+        → ¬ MeetsWrongly (square ∷ []) (ring_edge 0 0) (ring_edge 0 0) point }
 {}
 
 /// A hole beside its exterior, and one inside another hole; the exterior is no hole, nor is an

@@ -1,30 +1,10 @@
 use Rattle.std.proofs.Common.{rules, ◌≡◌, ap, refl, arith}
-use Rattle.mvt_sweep.specs.Calls.SweepVertices.{AreSweepVertices, IsNamedMeeting, sweep_count}
+use Rattle.mvt_sweep.specs.Calls.SweepVertices.{AreSweepVertices, sweep_count}
 use Rattle.mvt_sweep.specs.Work.{vertex_count}
-use Rattle.mvt_sweep.specs.Meeting.{NoMeeting}
 use Rattle.mvt_sweep.specs.Calls.Pairs.{pairs_of}
 use Rattle.mvt_sweep.specs.Rings.{rings_of}
-use Rattle.mvt_sweep.proofs.Vertices.VertexPlans.{none_of_rings}
-use Rattle.mvt_sweep.proofs.Sweeps.LeastWork.{counted_by, counted_named, pairs_of_rings, tested_there}
-use Rattle.mvt_sweep.proofs.Sweeps.MeetingsFound.{none_named, some_named}
-use Rattle.mvt_sweep.proofs.Sweeps.NoMeetings.{none_map}
+use Rattle.mvt_sweep.proofs.Sweeps.LeastWork.{counted_by, pairs_of_rings, tested_there}
 use Rattle.mvt_sweep.proofs.meeting.self_intersection.Goals as goal
-
-pub returns-then-find_pairs-clause-none : goal.returns-then-find_pairs-clause-none
-returns-then-find_pairs-clause-none c =
-    let rings = rings_of c.args.rings.now in
-    let vertices = c.new-vertices.result in
-    let are : AreSweepVertices rings vertices = search rules in
-    none_named c.meeting_among.result c.named_meeting.result (NoMeeting rings) c.named_meeting.ensures.none
-    (none_map c.meeting_among.result (none_of_rings rings vertices c.requires.proper are) c.meeting_among.ensures.none)
-
-pub returns-then-find_pairs-clause-some : goal.returns-then-find_pairs-clause-some
-returns-then-find_pairs-clause-some c =
-    let rings = rings_of c.args.rings.now in
-    let vertices = c.new-vertices.result in
-    let are : AreSweepVertices rings vertices = search rules in
-    some_named rings vertices c.meeting_among.result c.named_meeting.result c.requires.proper are
-    c.meeting_among.ensures.some c.named_meeting.ensures.some
 
 pub returns-then-find_pairs-clause-least : goal.returns-then-find_pairs-clause-least
 returns-then-find_pairs-clause-least c =
@@ -33,8 +13,6 @@ returns-then-find_pairs-clause-least c =
     let are : AreSweepVertices rings vertices = search rules in
     let size : sweep_count vertices ≡ vertex_count rings = are.count in
     let pairs : pairs_of (sweep_count vertices) ≡ pairs_of (vertex_count rings) = ap pairs_of size in
-    counted_named (λ meeting pair. IsNamedMeeting rings pair meeting) (vertex_count rings) c.args.count.now c.meeting_among.new.count c.meeting_among.result c.named_meeting.result
-    c.named_meeting.ensures.none c.named_meeting.ensures.some
-    (counted_by (vertex_count rings) c.args.count.now c.find_pairs.new.count c.meeting_among.new.count c.meeting_among.result (omega (arith, c.find_pairs.ensures.counted.no_fewer_tests))
+    counted_by (vertex_count rings) c.args.count.now c.find_pairs.new.count c.meeting_among.new.count c.meeting_among.result (omega (arith, c.find_pairs.ensures.counted.no_fewer_tests))
     (omega (arith, c.if-find_pairs.ensures.probed refl, pairs, pairs_of_rings rings c.requires.proper, c.meeting_among.ensures.counted.no_fewer_probes))
-    (tested_there c.find_pairs.new.count c.meeting_among.new.count c.meeting_among.result c.meeting_among.ensures.least))
+    (tested_there c.find_pairs.new.count c.meeting_among.new.count c.meeting_among.result c.meeting_among.ensures.least)

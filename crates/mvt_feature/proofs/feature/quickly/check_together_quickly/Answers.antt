@@ -1,8 +1,6 @@
-use Rattle.std.proofs.Common.{◌≤◌, Some, IfSome, sym, subst, arith}
-use Rattle.mvt_feature.specs.Calls.FeatureParts.{IsFirstMisplaced}
+use Rattle.std.proofs.Common.{Some, sym, subst, arith}
 use Rattle.mvt_feature.specs.Calls.QuickParts.{IsTogetherAnswer}
 use Rattle.mvt_sweep.specs.Swept.{IsNotedClear, IsSweptAnswer, met_in}
-use Rattle.mvt_feature.specs.Feature.{IsCountedFault}
 use Rattle.mvt_sweep.specs.Meeting.{IsMeetingOf}
 use Rattle.mvt_polygon.specs.Polygons.{ArePolygons}
 use Rattle.mvt_sweep.specs.Rings.{rings_of}
@@ -10,12 +8,11 @@ use Rattle.mvt_sweep.specs.Work.{IsCounted, vertex_count}
 use Rattle.mvt_feature.specs.declared.feature.FeatureFault.{FeatureFault}
 use Rattle.mvt_sweep.specs.declared.sweep.notes.RingNotes.{RingNotes}
 use Rattle.mvt_sweep.specs.declared.sweep.swept.Swept.{Swept}
-use Rattle.mvt_feature.proofs.Features.CountedFaults.{counted_in_all}
+use Rattle.mvt_feature.proofs.Features.CountedFaults.{counted_where_clear}
 use Rattle.mvt_feature.proofs.Features.FirstPolygons.{of_listed}
 use Rattle.mvt_feature.proofs.Features.FirstMeetings.{second_within}
-use Rattle.mvt_feature.proofs.Features.PartedAnswers.{if_ok}
+use Rattle.mvt_feature.proofs.Features.SweepsAdded.{one_sweep}
 use Rattle.mvt_feature.proofs.Features.QuickAnswers.{meeting_of_polygon, placed_result}
-use Rattle.mvt_status.specs.Counts.{raised}
 use Rattle.mvt_feature.proofs.feature.quickly.check_together_quickly.Goals as goal
 
 pub returns-in-Clear-clause-answer : goal.returns-in-Clear-clause-answer
@@ -24,16 +21,15 @@ returns-in-Clear-clause-answer c =
     let noted : IsNotedClear rings c.in-Clear.notes = subst (IsSweptAnswer rings) c.in-Clear.is c.in_ok-notes.ensures.answer in
     placed_result rings c.in_ok-polygons.polygons.items c.first_misplaced.result c.in_ok-polygons.ensures noted.clear c.first_misplaced.ensures.none c.first_misplaced.ensures.first
 
-pub returns-in-Clear-clause-found : goal.returns-in-Clear-clause-found
-returns-in-Clear-clause-found c =
+pub returns-in-Clear-clause-by_answer : goal.returns-in-Clear-clause-by_answer
+returns-in-Clear-clause-by_answer c =
     let rings = rings_of c.args.rings.now in
     let start = c.args.count.now in
-    let after = c.first_misplaced.new.count in
-    let work = c.first_misplaced.ensures.counted in
-    let least : raised (vertex_count rings) start.probes ≤ c.sweep_rings.new.count.probes =
-    subst (λ (swept : Swept RingNotes). IsCounted (vertex_count rings) start c.sweep_rings.new.count (met_in swept)) c.in-Clear.is c.in_ok-notes.ensures.least in
-    let swept : raised (vertex_count rings) start.probes ≤ after.probes = omega (arith, least, work.no_fewer_probes) in
-    if_ok c.first_misplaced.result (λ found. IfSome found (IsFirstMisplaced rings)) (λ found. IfSome found (IsCountedFault rings start after)) (λ found. counted_in_all rings start after found swept) c.first_misplaced.ensures.first
+    let between = c.sweep_rings.new.count in
+    let least = subst (λ (swept : Swept RingNotes). IsCounted (vertex_count rings) start between (met_in swept)) c.in-Clear.is c.in_ok-notes.ensures.least in
+    counted_where_clear rings start between c.first_misplaced.new.count c.first_misplaced.result
+    (one_sweep (vertex_count rings) (vertex_count rings) start between (omega arith) c.sweep_rings.ensures.counted) least
+    c.first_misplaced.ensures.counted.no_fewer_probes c.first_misplaced.ensures.unswept c.first_misplaced.ensures.first
 
 pub fault_of_second-requires : goal.fault_of_second-requires
 fault_of_second-requires c =

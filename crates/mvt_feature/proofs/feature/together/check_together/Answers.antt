@@ -1,4 +1,5 @@
 use Rattle.std.proofs.Common.{◌≡◌, ℕ, ◌<◌, ◌≤◌, IfNone, IfSome, List, take, Option, option_map, sym, ◌∙◌, ap, ap₂, subst, arith}
+use Rattle.std.proofs.lemmas.Grind.{common_steps}
 use Rattle.std.specs.Option.{option_or}
 use Rattle.mvt_plane.specs.Position.{Position}
 use Rattle.mvt_sweep.specs.Work.{vertex_count}
@@ -139,10 +140,10 @@ returns-clause-apart c none =
     sweeps_with_front 1 1 2 (vertex_count its) (vertex_count rings) c.args.count.now c.clear_front.new.count c.first_misplaced.new.count
     (omega (arith, ap vertex_count (first_slice c.args.rings.now k), fewer_vertices k rings)) (omega arith) (c.clear_front.ensures.apart none) c.first_misplaced.ensures.counted
 
--- What is counted where a fault is found
+-- What is counted by the answer
 
-pub returns-clause-found : goal.returns-clause-found
-returns-clause-found c =
+pub returns-clause-by_answer : goal.returns-clause-by_answer
+returns-clause-by_answer c =
     let rings = rings_of c.args.rings.now in
     let items = c.in_ok-polygons.polygons.items in
     let front = c.in_ok-front.front in
@@ -160,10 +161,14 @@ returns-clause-found c =
     let same : c.or-2.result ≡ option_or (option_or inside misplaced) (option_map (fault_after items front.polygons) front.meeting) =
     c.or-2.ensures ∙ ap₂ (λ (one other : Option FeatureFault). option_or one other) c.or.ensures following in
     let swept : raised (vertex_count (take front.rings rings)) start.probes ≤ after.probes = omega (arith, c.in_ok-front.ensures.probed, work.no_fewer_probes) in
-    subst (λ (found : Option FeatureFault). IfSome found (IsCountedFault rings start after)) (sym same)
-    (counted_or rings (option_or inside misplaced) (option_map (fault_after items front.polygons) front.meeting) start after
-    (counted_or rings inside misplaced start after
-    (counted_in_later rings front.polygons front.rings are start after swept (until_of front.polygons misplaced) inside (until_within rings front.polygons front.rings misplaced are some) some_later)
-    (counted_in_front rings front.polygons front.rings are start after swept misplaced some))
-    (counted_to rings (option_map (fault_after items front.polygons) front.meeting) start c.clear_front.new.count after work.no_fewer_tests work.no_fewer_probes
-    (counted_after rings items front.polygons front.meeting start c.clear_front.new.count c.in_ok-front.ensures.tested)))
+    record {
+      valid = grind (arith, common_steps);
+      least = grind (arith, common_steps);
+      found = subst (λ (found : Option FeatureFault). IfSome found (IsCountedFault rings start after)) (sym same)
+          (counted_or rings (option_or inside misplaced) (option_map (fault_after items front.polygons) front.meeting) start after
+          (counted_or rings inside misplaced start after
+          (counted_in_later rings front.polygons front.rings are start after swept (until_of front.polygons misplaced) inside (until_within rings front.polygons front.rings misplaced are some) some_later)
+          (counted_in_front rings front.polygons front.rings are start after swept misplaced some))
+          (counted_to rings (option_map (fault_after items front.polygons) front.meeting) start c.clear_front.new.count after work.no_fewer_tests work.no_fewer_probes
+          (counted_after rings items front.polygons front.meeting start c.clear_front.new.count c.in_ok-front.ensures.tested)));
+    }

@@ -1,5 +1,4 @@
 use Rattle.mvt_fault.specs.declared.profile.Profile.TheVariants.{Feature}
-use Rattle.mvt_rules.specs.PolygonFault.{number_of}
 use Rattle.mvt_rules.proofs.Validity.UnshownMeetings.{all_apart, none_meets}
 use Rattle.mvt_rules.proofs.laws.validity.all_pairs_of_a_feature.Goals as goal
 
@@ -14,5 +13,5 @@ returns-clause-shown c feature_record rings has sound = (
   λ none. all_apart rings sound
       (λ polygon it there first second point first_in second_in.
       none_meets Feature feature_record.kind feature_record.geometry rings polygon it first second point has (record { sound = sound; there = there }) (none polygon) first_in second_in),
-  λ all polygon first second point meeting. all (number_of first) (number_of second) point meeting.meets,
+  λ all polygon first second point meeting. all first second point meeting.meets,
 )
