@@ -38,15 +38,15 @@ fault_of_rings rings fault found sound = elim found.broken [
   | begins_with_hole code hole ↦ sound.exterior_first fault.ring hole
 ]
 
+-- each ring is of the only polygon
+pub ring_within : (rings : List (List Position)) (ring : ℕ) (vertices : List Position) → slice_get rings ring ≡ Some vertices → IsRingOf (one_polygon rings) ring
+ring_within rings ring vertices there = record { from = omega arith; before = slice_get_within rings ring vertices there }
+
 -- nor is a polygon with a fault
 pub fault_of_polygon : (rings : List (List Position)) (fault : PolygonFault) → IsPolygon rings 0 (one_polygon rings) → IsAnswerAlone rings (Some fault) → ¬ AreValidRings rings
 fault_of_polygon rings (Meeting meeting) is_it answer valid =
     let it = valid.polygons 0 (one_polygon rings) is_it in
     it.apart (first_of meeting) (second_of meeting) meeting.point (ring_within rings (first_of meeting).ring answer.one_there.ring answer.one_there.there) (ring_within rings (second_of meeting).ring answer.other_there.ring answer.other_there.there) answer.meets
-  where
-    -- each ring is of the only polygon
-    ring_within : (rings : List (List Position)) (ring : ℕ) (vertices : List Position) → slice_get rings ring ≡ Some vertices → IsRingOf (one_polygon rings) ring
-    ring_within rings ring vertices there = record { from = omega arith; before = slice_get_within rings ring vertices there }
 fault_of_polygon rings (Nesting fault) is_it answer valid = none_nested rings fault (valid.polygons 0 (one_polygon rings) is_it) answer.1.holds
   where
     none_nested : (rings : List (List Position)) (fault : NestFault) → IsValidPolygon rings (one_polygon rings) → ¬ IsNestFault rings fault

@@ -1,5 +1,5 @@
 //! The boundary of what is filled: edges with what is filled on their left, and the rings along
-//! them.
+//! them. The order of edges is by the keys of their ends, first the one where they begin.
 
 mod exteriors;
 mod links;
@@ -7,18 +7,31 @@ mod merging;
 mod rings;
 mod successors;
 
-use crate::segment::HalfEdge;
-pub(crate) use links::{Links, Spoke, Touch, links_of};
-pub(crate) use merging::merged;
+use crate::segment::{HalfEdge, Keyed};
+use links::links_of;
+pub(crate) use links::{Links, Spoke, Touch, links_after};
+pub(crate) use merging::{Renumbered, merged};
 use mvt_plane::{Point, sweep_key};
 pub(crate) use rings::{BoundaryRing, Traced, add_outlines, trace};
+use std::alloc::{AllocError, Global};
 
 /// The number of no edge, and of no ring.
 pub(crate) const NO_NUMBER: u32 = u32::MAX;
 
-/// The order of edges: by the keys of their ends, first the one where they begin.
-pub(crate) fn order_of(edge: &HalfEdge) -> (i64, i64) {
-    (sweep_key(edge.from), sweep_key(edge.to))
+/// Edges in their order, and how they go on.
+#[derive(Drop)]
+pub(crate) struct Boundary {
+    pub(crate) edges: Vec<HalfEdge>,
+    pub(crate) links: Links,
+}
+
+impl Boundary {
+    /// That of these edges, which are in their order. None where they are no boundary. The only error
+    /// is that memory was refused.
+    pub(crate) fn of(alloc: Global, edges: Vec<HalfEdge>) -> Result<Option<Boundary>, AllocError> {
+        let links = links_of(alloc, &edges)?;
+        Ok(links.map(|links| Boundary { edges, links }))
+    }
 }
 
 /// The number of the first of these edges, which are in their order, that begins at no lesser key.
@@ -37,7 +50,7 @@ pub(crate) fn is_vertex(edges: &[HalfEdge], position: Point) -> bool {
 /// The number of the edge from one position to another among these edges, which are in their order.
 pub(crate) fn number_of(edges: &[HalfEdge], from: Point, to: Point) -> Option<usize> {
     let wanted = (sweep_key(from), sweep_key(to));
-    let at = edges.partition_point(|edge| order_of(edge) < wanted);
+    let at = edges.partition_point(|edge| edge.keys() < wanted);
     let edge = edges.get(at)?;
     if edge.from == from && edge.to == to {
         Some(at)

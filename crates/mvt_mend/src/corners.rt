@@ -9,11 +9,10 @@ mod star;
 mod tests;
 mod wedge;
 
-use crate::boundary::{Links, Touch, Traced, add_outlines, links_of, order_of, trace};
+use crate::boundary::{Boundary, Links, Touch, Traced, add_outlines, trace};
 use crate::corners::classes::classes_of;
 use crate::corners::cuts::Cuts;
 use crate::corners::star::Star;
-use crate::order::sorted_by_ends;
 use crate::outlines::Outlines;
 use crate::segment::{HalfEdge, Tally};
 use crate::work::Work;
@@ -35,17 +34,16 @@ const WORK_OF_A_ROUND: u64 = 16;
 enum Round {
     /// No rings touch any more that may not, and they are outlines now.
     Apart,
-    /// Corners were cut, and these edges are left.
-    Cut(Vec<HalfEdge>),
+    /// Corners were cut, and this is left.
+    Cut(Boundary),
     /// The work doesn't suffice, or the edges are no boundary.
     GaveUp,
 }
 
 /// Adds the rings of the polygons whose boundary the edges are, with what is filled on their left,
 /// after corners were cut where rings of one polygon, or by the profile `feature` of any, touch. The
-/// edges meet in ends only. Returns whether the work sufficed. The only error is that memory was refused.
-///
-/// It takes the time of a sort, and of one more for each round of cuts.
+/// edges meet in ends only, and are in their order. Returns whether the work sufficed. The only error
+/// is that memory was refused.
 pub(crate) fn add_polygons_apart(
     alloc: Global,
     profile: Profile,
@@ -56,66 +54,54 @@ pub(crate) fn add_polygons_apart(
 ) -> Result<bool, AllocError>
     ensures no_more { work.new ≤ work.old }
 {
-    let mut edges = in_order(alloc, edges)?;
+    let Some(mut boundary) = Boundary::of(alloc, edges)? else {
+        return Ok(false);
+    };
     for round in 0..GREATEST_ROUNDS {
         let shrinking = round >= MIXED_ROUNDS;
-        match cut_round(alloc, profile, shrinking, edges, work, tally, outlines)? {
+        match cut_round(alloc, profile, shrinking, boundary, work, tally, outlines)? {
             Round::Apart => return Ok(true),
-            Round::Cut(left) => edges = left,
+            Round::Cut(left) => boundary = left,
             Round::GaveUp => return Ok(false),
         }
     }
     Ok(false)
 }
 
-/// Adds the rings along these edges where none touch that may not, and else cuts corners.
+/// Adds the rings of a boundary where none touch that may not, and else cuts corners.
 fn cut_round(
     alloc: Global,
     profile: Profile,
     shrinking: bool,
-    edges: Vec<HalfEdge>,
+    boundary: Boundary,
     work: &mut Work,
     tally: &mut Tally,
     outlines: &mut Outlines,
 ) -> Result<Round, AllocError>
     ensures no_more { work.new ≤ work.old }
 {
-    if !work.spend((edges.len() as u64).saturating_mul(WORK_OF_A_ROUND)) {
+    if !work.spend((boundary.edges.len() as u64).saturating_mul(WORK_OF_A_ROUND)) {
         return Ok(Round::GaveUp);
     }
-    let Some(links) = links_of(alloc, &edges)? else {
+    let Some(traced) = trace(alloc, &boundary.edges, &boundary.links, work)? else {
         return Ok(Round::GaveUp);
     };
-    let Some(traced) = trace(alloc, &edges, &links, work)? else {
-        return Ok(Round::GaveUp);
-    };
-    let Some(cuts) = cuts_of(alloc, profile, shrinking, &edges, &links, &traced, work)? else {
+    let Some(cuts) = cuts_of(alloc, profile, shrinking, &boundary, &traced, work)? else {
         return Ok(Round::GaveUp);
     };
     if cuts.count > 0 {
         tally.cuts = tally.cuts.wrapping_add(cuts.count);
-        drop(links);
         drop(traced);
-        return Ok(Round::Cut(cuts.applied(alloc, edges)?));
+        return match cuts.applied(alloc, boundary)? {
+            Some(left) => Ok(Round::Cut(left)),
+            None => Ok(Round::GaveUp),
+        };
     }
-    if profile == Profile::Feature && !links.touches.is_empty() {
+    if profile == Profile::Feature && !boundary.links.touches.is_empty() {
         return Ok(Round::GaveUp);
     }
-    add_outlines(alloc, &edges, &links, &traced, outlines)?;
+    add_outlines(alloc, &traced, outlines)?;
     Ok(Round::Apart)
-}
-
-/// The edges in their order, in which they mostly are.
-fn in_order(alloc: Global, edges: Vec<HalfEdge>) -> Result<Vec<HalfEdge>, AllocError> {
-    if edges.is_sorted_by_key(order_of) {
-        return Ok(edges);
-    }
-    sorted_by_ends(
-        alloc,
-        &edges,
-        &|edge: &HalfEdge| edge.from,
-        &|edge: &HalfEdge| edge.to,
-    )
 }
 
 /// The cuts of a round. None where the work doesn't suffice.
@@ -123,13 +109,13 @@ fn cuts_of(
     alloc: Global,
     profile: Profile,
     shrinking: bool,
-    edges: &[HalfEdge],
-    links: &Links,
+    boundary: &Boundary,
     traced: &Traced,
     work: &mut Work,
 ) -> Result<Option<Cuts>, AllocError>
     ensures no_more { work.new ≤ work.old }
 {
+    let (edges, links) = (boundary.edges.as_slice(), &boundary.links);
     let mut cuts = Cuts::new(alloc, 0)?;
     if links.touches.is_empty() {
         return Ok(Some(cuts));

@@ -98,7 +98,13 @@ struct Neighbors {
 }
 
 impl Notes for Neighbors {
-    fn begin(&mut self, number: u32, below: u32, _work: &mut Work) -> Result<(), Stop> {
+    fn begin(
+        &mut self,
+        number: u32,
+        below: u32,
+        _like: Option<u32>,
+        _work: &mut Work,
+    ) -> Result<(), Stop> {
         let place = self.below.get_mut(number as usize);
         *place.ok_or(Stop::GaveUp)? = below;
         Ok(())
@@ -131,9 +137,18 @@ impl FacesAround<'_> {
 }
 
 impl Notes for FacesAround<'_> {
-    fn begin(&mut self, number: u32, below: u32, _work: &mut Work) -> Result<(), Stop> {
+    fn begin(
+        &mut self,
+        number: u32,
+        below: u32,
+        like: Option<u32>,
+        _work: &mut Work,
+    ) -> Result<(), Stop> {
         let (winding, face) = self.above(below);
-        let above = self.faces.groups.add()?;
+        let above = match like {
+            Some(like) => self.above(like).1,
+            None => self.faces.groups.add()?,
+        };
         let place = self.faces.sides.get_mut(number as usize);
         *place.ok_or(Stop::GaveUp)? = Sides {
             winding,

@@ -7,10 +7,12 @@ ghost use Rattle.mvt_plane.specs.Geometry.Ring.{doubled_area};
 ghost use Rattle.mvt_polygon.specs.Polygons.{ArePolygons};
 ghost use Rattle.mvt_sweep.specs.Rings.{rings_of};
 
+mod known;
 mod right;
 
 use mvt_plane::{Point, twice_area};
 use mvt_polygon::polygon_end;
+use mvt_sweep::Meeting;
 use right::marks_of;
 pub(crate) use right::{are_feature_right, are_right};
 use std::alloc::{AllocError, Global};
@@ -24,12 +26,18 @@ pub(crate) struct Judged {
     pub(crate) right: Vec<bool>,
 }
 
-/// Judges the polygons of the rings one by one. The only error is that memory was refused.
-pub(crate) fn judge(alloc: Global, rings: &[Vec<Point>]) -> Result<Judged, AllocError>
+/// Judges the polygons of the rings one by one. `known` are edges that may meet wrongly, if such are
+/// known: where they do, no others are looked for in their polygon. The only error is that memory was
+/// refused.
+pub(crate) fn judge(
+    alloc: Global,
+    rings: &[Vec<Point>],
+    known: Option<&Meeting>,
+) -> Result<Judged, AllocError>
     ensures { IfOk result (λ it. AreJudged (rings_of rings.now) it.polygons.items it.right.items) }
 {
     let polygons = polygons_of(alloc, rings)?;
-    let right = marks_of(alloc, rings, &polygons)?;
+    let right = marks_of(alloc, rings, &polygons, known)?;
     Ok(Judged { polygons, right })
 }
 

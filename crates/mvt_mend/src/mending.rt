@@ -22,6 +22,7 @@ use crate::near::edges::OldEdges;
 use crate::work::Work;
 use mvt_fault::Profile;
 use mvt_plane::Point;
+use mvt_sweep::Meeting;
 use old::Old;
 use proposal::{Proposal, propose};
 use std::alloc::{AllocError, Global};
@@ -46,7 +47,8 @@ pub struct MendedRings {
 }
 
 /// Rings in place of these, which are meant to keep the profile, or None where none were found
-/// within the work, or where nothing has an area. Each of their vertices is within two units of an edge of the rings that were
+/// within the work, or where nothing has an area. `known` are edges that may meet wrongly, if such
+/// are known: that spares a search, and changes nothing else. Each of their vertices is within two units of an edge of the rings that were
 /// given. By the profile `polygon` the polygons that keep all rules are still there, in their
 /// order, unless the first ring that has an area is a hole. The only error is that memory was
 /// refused.
@@ -54,6 +56,7 @@ pub fn mend_rings(
     alloc: Global,
     profile: Profile,
     rings: &[Vec<Point>],
+    known: Option<&Meeting>,
     work: &mut Work,
 ) -> Result<Option<MendedRings>, AllocError>
     ensures near { IfOk result (λ found. IfSome found (λ mended.
@@ -66,7 +69,7 @@ pub fn mend_rings(
     if !work.spend(least_work(rings)) {
         return Ok(None);
     }
-    let judged = judge(alloc, rings)?;
+    let judged = judge(alloc, rings, known)?;
     let edges = OldEdges::of(alloc, rings)?;
     let old = Old {
         rings,

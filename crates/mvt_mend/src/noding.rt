@@ -33,10 +33,10 @@ use std::alloc::{AllocError, Global};
 /// After so many rounds that found a meeting it gives up.
 const MOST_ROUNDS: u32 = 16;
 
-/// The segments, split where they meet until no two of them have more in common than an end, with
-/// equal ones merged and those of no gain left out, in the order of their ends (a, then b, by key).
-/// None where the work doesn't suffice, or where too many rounds would be needed. The only error is
-/// that memory was refused.
+/// The segments, each of which goes from the end of lesser key to the other, split where they meet
+/// until no two of them have more in common than an end, with equal ones merged and those of no gain
+/// left out, in the order of their ends (a, then b, by key). None where the work doesn't suffice, or
+/// where too many rounds would be needed. The only error is that memory was refused.
 pub(crate) fn node(
     alloc: Global,
     segments: Vec<Segment>,

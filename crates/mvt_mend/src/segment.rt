@@ -1,6 +1,6 @@
 //! Parts of the edges that mending works with.
 
-use mvt_plane::Point;
+use mvt_plane::{Point, sweep_key};
 
 /// How often the edges of a polygon go round a place, counterclockwise counted as positive in the
 /// orientation of `orient`: those of its exterior, and those of its holes, each hole turned so that
@@ -70,6 +70,26 @@ pub(crate) struct HalfEdge {
     /// The number of the part of what is filled that is on its left, where no corner was cut yet.
     /// Afterwards parts may be joined, or fall apart.
     pub(crate) part: u32,
+}
+
+/// What is sorted by the keys of its two ends.
+pub(crate) trait Keyed {
+    /// The keys of both, first the one by which it is sorted first.
+    fn keys(&self) -> (i64, i64);
+}
+
+impl Keyed for Segment {
+    #[inline]
+    fn keys(&self) -> (i64, i64) {
+        (sweep_key(self.a), sweep_key(self.b))
+    }
+}
+
+impl Keyed for HalfEdge {
+    #[inline]
+    fn keys(&self) -> (i64, i64) {
+        (sweep_key(self.from), sweep_key(self.to))
+    }
 }
 
 /// What mending did to a feature.

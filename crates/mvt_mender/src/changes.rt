@@ -5,7 +5,7 @@ ghost use Rattle.mvt_mender.specs.Calls.Steps.{IsChangesAnswer, IsMadeAt};
 use crate::feature::mend_feature;
 use crate::mending::{FeatureChange, WhatChanged};
 use crate::place::FeaturePlace;
-use mvt_fault::Profile;
+use mvt_fault::{Fault, Profile};
 use mvt_mend::Work;
 use mvt_splice::Change;
 use mvt_tile::FeatureBytes;
@@ -29,12 +29,13 @@ pub(crate) enum ChangesFound {
     Unmended(usize),
 }
 
-/// The changes to the features at these places, in their order. Where the caller asks for that, those
+/// The changes to the features at these places, in their order, each of which has a fault. Where the caller asks for that, those
 /// that can't be mended are left out. The only error is that memory was refused.
 pub(crate) fn find_changes(
     alloc: Global,
     profile: Profile,
     drop_unmended: bool,
+    faults: &[Fault],
     places: &[FeaturePlace],
     features: &[FeatureBytes<'_>],
     work: &mut Work,
@@ -46,7 +47,16 @@ pub(crate) fn find_changes(
     let mut made = Vec::new(alloc);
     'features: for (at, feature) in features.iter().enumerate() {
         let place = places[at];
-        let Some((one, change)) = change_of(alloc, profile, drop_unmended, place, feature, work)?
+        let fault = faults.get(at);
+        let Some((one, change)) = change_of(
+            alloc,
+            profile,
+            drop_unmended,
+            place,
+            feature,
+            fault,
+            work,
+        )?
         else {
             return Ok(ChangesFound::Unmended(at));
         };
@@ -63,13 +73,14 @@ fn change_of(
     drop_unmended: bool,
     place: FeaturePlace,
     feature: &FeatureBytes<'_>,
+    fault: Option<&Fault>,
     work: &mut Work,
 ) -> Result<Option<(FeatureChange, Change)>, AllocError>
     ensures made { IfOk result (λ found. IfSome found (λ r.
         IsMadeAt profile drop_unmended place feature.now r.0 r.1)) }
     ensures unmended { IfOk result (λ found. IfNone found (drop_unmended ≡ false)) }
 {
-    let (what, geometry) = match mend_feature(alloc, profile, feature, work)? {
+    let (what, geometry) = match mend_feature(alloc, profile, feature, fault, work)? {
         Some(new) => (WhatChanged::Mended(new.mended), Some(new.numbers)),
         None if drop_unmended => (WhatChanged::Dropped, None),
         None => return Ok(None),

@@ -14,10 +14,11 @@ ghost use Rattle.mvt_mender.specs.Changed.{IsMendedGeometry};
 use crate::measures::measures_of;
 use crate::mending::MendedFeature;
 use mvt_draw::{Figure, SpellFault, spell};
-use mvt_fault::Profile;
+use mvt_fault::{Fault, Profile};
 use mvt_gate::{Search, rings_fault};
 use mvt_mend::{MendedRings, Work, loose_rings, mend_rings};
-use mvt_plane::{Count, Point};
+use mvt_plane::{Count, Hpoint, Point};
+use mvt_sweep::Meeting;
 use mvt_tile::{FeatureBytes, list_of};
 use std::alloc::{AllocError, Global};
 
@@ -31,12 +32,13 @@ pub(crate) struct NewGeometry {
 }
 
 /// A valid geometry in place of that of a feature of polygons, or None where its numbers draw no
-/// rings, or none were found in their place within the work. The only error is that memory was
-/// refused.
+/// rings, or none were found in their place within the work. The feature has this fault, if it is
+/// given. The only error is that memory was refused.
 pub(crate) fn mend_feature(
     alloc: Global,
     profile: Profile,
     feature: &FeatureBytes<'_>,
+    fault: Option<&Fault>,
     work: &mut Work,
 ) -> Result<Option<NewGeometry>, AllocError>
     ensures { IfOk result (λ found. IfSome found (λ new. (it : FeatureRecord)
@@ -48,10 +50,35 @@ pub(crate) fn mend_feature(
         return Ok(None);
     };
     drop(numbers);
-    match mend_rings(alloc, profile, &old, work)? {
+    let known = meeting_of(fault);
+    match mend_rings(alloc, profile, &old, known.as_ref(), work)? {
         Some(new) => new_geometry(alloc, profile, &old, new),
         None => Ok(None),
     }
+}
+
+/// The edges that meet wrongly by a fault, if it is of that kind.
+fn meeting_of(fault: Option<&Fault>) -> Option<Meeting> {
+    let Some(
+        Fault::Meeting {
+            first,
+            second,
+            x,
+            y,
+            w,
+            ..
+        },
+    ) = fault
+    else {
+        return None;
+    };
+    Some(Meeting {
+        first_ring: first.ring,
+        first_edge: first.edge,
+        second_ring: second.ring,
+        second_edge: second.edge,
+        point: Hpoint::new(*x, *y, *w)?,
+    })
 }
 
 /// The geometry of new rings, or None where they aren't those of valid polygons.

@@ -226,7 +226,15 @@ fn mend_features(
     ensures { IfOk result (IsMendingBy profile drop_unmended bytes.now) }
 {
     let mut work = Work::new(MOST_WORK);
-    match find_changes(alloc, profile, drop_unmended, places, features, &mut work)? {
+    match find_changes(
+        alloc,
+        profile,
+        drop_unmended,
+        faults,
+        places,
+        features,
+        &mut work,
+    )? {
         ChangesFound::All(changes) => {
             let mended = splice(alloc, bytes, &changes.made)?;
             Ok(Mending::Mended(MendedTile {

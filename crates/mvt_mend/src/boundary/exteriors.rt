@@ -2,13 +2,13 @@
 ghost use Rattle.std.specs.Prelude.{◌≤◌};
 
 use crate::boundary::NO_NUMBER;
-use crate::boundary::rings::BoundaryRing;
+use crate::boundary::rings::{BoundaryRing, lowest_edge};
 use crate::faces::directly_below;
 use crate::groups::Groups;
-use crate::order::{ends_of, numbers_by_ends};
+use crate::order::{ends_of, sorted_by_ends};
 use crate::segment::{HalfEdge, Segment, Winding};
 use crate::work::Work;
-use mvt_plane::{Point, sweep_key};
+use mvt_plane::sweep_key;
 use std::alloc::{AllocError, Global};
 
 /// Of each ring the number of the exterior of its part: an exterior's own, and of a hole that of
@@ -18,6 +18,7 @@ use std::alloc::{AllocError, Global};
 pub(super) fn exteriors_of(
     alloc: Global,
     edges: &[HalfEdge],
+    next: &[u32],
     rings: &[BoundaryRing],
     ring_of: &[u32],
     parts: &mut Groups,
@@ -33,7 +34,8 @@ pub(super) fn exteriors_of(
     if !exteriors.contains(&NO_NUMBER) {
         return Ok(Some(exteriors));
     }
-    let Some(under) = rings_under(alloc, edges, rings, ring_of, work)? else {
+    let lowest = lowest_of(alloc, edges, next, rings, &exteriors)?;
+    let Some(under) = rings_under(alloc, edges, &lowest, ring_of, work)? else {
         return Ok(None);
     };
     if add_those_of_holes(&under, &mut exteriors, work) {
@@ -145,11 +147,32 @@ fn exterior_of(under: &[u32], exteriors: &[u32], number: usize, work: &mut Work)
     None
 }
 
-/// Of each ring the number of the ring of the edge directly below its vertex of least key.
+/// Of each ring whose exterior isn't known the lowest of its edges at its vertex of least key, of the
+/// others `NO_NUMBER`.
+fn lowest_of(
+    alloc: Global,
+    edges: &[HalfEdge],
+    next: &[u32],
+    rings: &[BoundaryRing],
+    exteriors: &[u32],
+) -> Result<Vec<u32>, AllocError> {
+    let mut lowest = Vec::with_capacity(alloc, rings.len())?;
+    for (ring, exterior) in rings.iter().zip(exteriors) {
+        lowest.push(if *exterior == NO_NUMBER {
+            lowest_edge(edges, next, ring)
+        } else {
+            NO_NUMBER
+        })?;
+    }
+    Ok(lowest)
+}
+
+/// Of each ring whose lowest edge at its vertex of least key is given the number of the ring of the
+/// edge directly below it.
 fn rings_under(
     alloc: Global,
     edges: &[HalfEdge],
-    rings: &[BoundaryRing],
+    lowest: &[u32],
     ring_of: &[u32],
     work: &mut Work,
 ) -> Result<Option<Vec<u32>>, AllocError>
@@ -166,9 +189,9 @@ fn rings_under(
             *place = ring_of_segment(&segments, ring_of, *under).unwrap_or(NO_NUMBER);
         }
     }
-    let mut under = Vec::with_capacity(alloc, rings.len())?;
-    for ring in rings {
-        let number = ring_under_edge.get(ring.lowest as usize);
+    let mut under = Vec::with_capacity(alloc, lowest.len())?;
+    for edge in lowest {
+        let number = ring_under_edge.get(*edge as usize);
         under.push(number.copied().unwrap_or(NO_NUMBER))?;
     }
     Ok(Some(under))
@@ -182,36 +205,14 @@ fn ring_of_segment(segments: &[Segment], ring_of: &[u32], number: u32) -> Option
 
 /// The edges as segments, in the order of their ends. The `witness` of each is its edge's number.
 fn segments_of(alloc: Global, edges: &[HalfEdge]) -> Result<Vec<Segment>, AllocError> {
-    let numbers = numbers_by_ends(alloc, edges, &lesser_end, &greater_end)?;
     let mut segments = Vec::with_capacity(alloc, edges.len())?;
-    for number in &numbers {
-        if let Some(edge) = edges.get(*number as usize) {
-            let witness = *number;
-            segments.push(Segment {
-                witness,
-                ..segment_of(edge)
-            })?;
-        }
+    for (witness, edge) in (0u32..).zip(edges) {
+        segments.push(Segment {
+            witness,
+            ..segment_of(edge)
+        })?;
     }
-    Ok(segments)
-}
-
-/// The end of an edge that has the lesser key.
-fn lesser_end(edge: &HalfEdge) -> Point {
-    if sweep_key(edge.from) < sweep_key(edge.to) {
-        edge.from
-    } else {
-        edge.to
-    }
-}
-
-/// The other one.
-fn greater_end(edge: &HalfEdge) -> Point {
-    if sweep_key(edge.from) < sweep_key(edge.to) {
-        edge.to
-    } else {
-        edge.from
-    }
+    sorted_by_ends(alloc, segments)
 }
 
 /// An edge as a segment, which has what is filled above it or below it.

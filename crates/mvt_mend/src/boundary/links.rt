@@ -1,7 +1,7 @@
 //! Which edge of a boundary follows which.
 
 use crate::boundary::NO_NUMBER;
-use crate::boundary::successors::Successors;
+use crate::boundary::successors::{Following, Successors, found_after};
 use crate::near::edges::short;
 use crate::segment::HalfEdge;
 use mvt_plane::{Point, side};
@@ -51,29 +51,74 @@ pub(crate) fn links_of(alloc: Global, edges: &[HalfEdge]) -> Result<Option<Links
         return Ok(None);
     }
     let successors = Successors::of(alloc, edges)?;
-    let mut links = Links {
-        next: Vec::with_capacity(alloc, edges.len())?,
-        touches: Vec::new(alloc),
-        spokes: Vec::new(alloc),
-    };
+    let mut links = Links::with_next(alloc, Vec::with_capacity(alloc, edges.len())?);
     let mut arrivals = Vec::new(alloc);
     for (number, edge) in edges.iter().enumerate() {
-        let Some(first) = successors.first_after(edges, edge) else {
+        let Some(Following { first, is_only }) = successors.after(edges, edge) else {
             return Ok(None);
         };
-        links.next.push(short(first))?;
-        if !is_last_from(edges, first) {
-            arrivals.push(Arrival {
-                first: short(first),
-                edge: short(number),
-            })?;
+        links.next.push(first)?;
+        if !is_only {
+            let edge = short(number);
+            arrivals.push(Arrival { first, edge })?;
         }
     }
-    if links.add_touches(alloc, edges, arrivals)? {
-        Ok(Some(links))
-    } else {
-        Ok(None)
+    links.with_touches(alloc, edges, arrivals)
+}
+
+/// The same of edges after a change, where these are the links before it. `numbers` has of each edge
+/// its number now, if it is still there. Of those marked as `stale` begin others at their position
+/// too, or did, or an edge there was taken away or added.
+pub(crate) fn links_after(
+    alloc: Global,
+    edges: &[HalfEdge],
+    before: Links,
+    numbers: &[u32],
+    stale: &[bool],
+) -> Result<Option<Links>, AllocError> {
+    if edges.len() >= NO_NUMBER as usize {
+        return Ok(None);
     }
+    let next = next_after(alloc, edges.len(), &before.next, numbers, stale)?;
+    drop(before);
+    let mut links = Links::with_next(alloc, next);
+    let mut arrivals = Vec::new(alloc);
+    for (number, edge) in edges.iter().enumerate() {
+        if links.next.get(number) != Some(&NO_NUMBER) {
+            continue;
+        }
+        let Some(Following { first, is_only }) = found_after(edges, edge) else {
+            return Ok(None);
+        };
+        let edge = short(number);
+        links.link(edge, first);
+        if !is_only {
+            arrivals.push(Arrival { first, edge })?;
+        }
+    }
+    links.with_touches(alloc, edges, arrivals)
+}
+
+/// Of each of so many edges the number of the next one, as far as neither is new or stale, or else
+/// `NO_NUMBER`.
+fn next_after(
+    alloc: Global,
+    count: usize,
+    before: &[u32],
+    numbers: &[u32],
+    stale: &[bool],
+) -> Result<Vec<u32>, AllocError> {
+    let mut next = vec![in alloc; NO_NUMBER; count]?;
+    for (number, following) in numbers.iter().zip(before) {
+        let following = *following as usize;
+        if stale.get(following) != Some(&false) {
+            continue;
+        }
+        if let (Some(place), Some(now)) = (next.get_mut(*number as usize), numbers.get(following)) {
+            *place = *now;
+        }
+    }
+    Ok(next)
 }
 
 /// An edge that ends where several begin.
@@ -85,16 +130,31 @@ struct Arrival {
     edge: u32,
 }
 
-/// Whether no edge after this one begins at the same position.
-#[inline]
-fn is_last_from(edges: &[HalfEdge], at: usize) -> bool {
-    match (edges.get(at), edges.get(at.saturating_add(1))) {
-        (Some(edge), Some(after)) => after.from != edge.from,
-        _ => true,
-    }
-}
-
 impl Links {
+    /// Those with no touches.
+    fn with_next(alloc: Global, next: Vec<u32>) -> Links {
+        Links {
+            next,
+            touches: Vec::new(alloc),
+            spokes: Vec::new(alloc),
+        }
+    }
+
+    /// The same with the positions where several edges begin, at which these arrive. None where edges
+    /// don't leave and arrive in turn there.
+    fn with_touches(
+        mut self,
+        alloc: Global,
+        edges: &[HalfEdge],
+        arrivals: Vec<Arrival>,
+    ) -> Result<Option<Links>, AllocError> {
+        if self.add_touches(alloc, edges, arrivals)? {
+            Ok(Some(self))
+        } else {
+            Ok(None)
+        }
+    }
+
     /// Notes that one edge follows another.
     fn link(&mut self, edge: u32, following: u32) {
         if let Some(next) = self.next.get_mut(edge as usize) {

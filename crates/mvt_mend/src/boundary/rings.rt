@@ -5,6 +5,7 @@ use crate::boundary::NO_NUMBER;
 use crate::boundary::exteriors::exteriors_of;
 use crate::boundary::links::Links;
 use crate::groups::Groups;
+use crate::near::edges::short;
 use crate::outlines::Outlines;
 use crate::segment::HalfEdge;
 use crate::work::Work;
@@ -16,12 +17,12 @@ use std::alloc::{AllocError, Global};
 pub(crate) struct BoundaryRing {
     /// The number of its first edge, which begins at its vertex of least key.
     pub(crate) first: u32,
-    /// How many edges it has.
-    pub(crate) count: usize,
+    /// The place of its first vertex among those of all rings.
+    begin: usize,
+    /// The place after its last one.
+    after: usize,
     /// Twice its area: positive for an exterior, negative for a hole.
     pub(crate) area: i128,
-    /// The lowest of its edges at that vertex.
-    pub(crate) lowest: u32,
 }
 
 /// The rings along a boundary, in the order of their first edges.
@@ -32,6 +33,10 @@ pub(crate) struct Traced {
     pub(crate) ring_of: Vec<u32>,
     /// Of each ring the number of the exterior of its part: an exterior's own.
     pub(crate) exteriors: Vec<u32>,
+    /// The vertices of the rings, ring by ring, each from its vertex of least key on.
+    vertices: Vec<Point>,
+    /// Of each the number of the old edge that the edge comes of that begins there.
+    witnesses: Vec<u32>,
 }
 
 /// The rings along these edges, which are in their order. None where the work doesn't suffice, or
@@ -45,28 +50,36 @@ pub(crate) fn trace(
 ) -> Result<Option<Traced>, AllocError>
     ensures no_more { work.new ≤ work.old }
 {
-    let mut rings = Vec::new(alloc);
-    let mut ring_of = vec![in alloc; NO_NUMBER; edges.len()]?;
+    let mut traced = Traced {
+        rings: Vec::new(alloc),
+        ring_of: vec![in alloc; NO_NUMBER; edges.len()]?,
+        exteriors: Vec::new(alloc),
+        vertices: Vec::with_capacity(alloc, edges.len())?,
+        witnesses: Vec::with_capacity(alloc, edges.len())?,
+    };
     let mut parts = Groups::new(alloc, part_count(edges))?;
     for first in 0..edges.len() {
-        if ring_of.get(first) != Some(&NO_NUMBER) {
-            continue;
-        }
-        let number = rings.len();
-        let Some(ring) = ring_from(edges, &links.next, first, number, &mut ring_of, &mut parts)
-        else {
+        if traced.ring_of.get(first) == Some(&NO_NUMBER)
+            && !traced.add_ring(edges, &links.next, first, &mut parts)?
+        {
             return Ok(None);
-        };
-        rings.push(ring)?;
+        }
     }
-    let Some(exteriors) = exteriors_of(alloc, edges, &rings, &ring_of, &mut parts, work)? else {
+    let rings = &traced.rings;
+    let Some(exteriors) = exteriors_of(
+        alloc,
+        edges,
+        &links.next,
+        rings,
+        &traced.ring_of,
+        &mut parts,
+        work,
+    )?
+    else {
         return Ok(None);
     };
-    Ok(Some(Traced {
-        rings,
-        ring_of,
-        exteriors,
-    }))
+    traced.exteriors = exteriors;
+    Ok(Some(traced))
 }
 
 /// How many numbers of parts there are up to the greatest one of these edges.
@@ -78,52 +91,74 @@ fn part_count(edges: &[HalfEdge]) -> usize {
     (greatest as usize).saturating_add(1)
 }
 
-/// The ring that begins with this edge, whose edges it marks with its number. The parts of its edges
-/// become one. None where it doesn't come back, or where it has no area.
-fn ring_from(
-    edges: &[HalfEdge],
-    next: &[u32],
-    first: usize,
-    number: usize,
-    ring_of: &mut [u32],
-    parts: &mut Groups,
-) -> Option<BoundaryRing> {
-    let number = u32::try_from(number).ok()?;
-    let begin = *edges.get(first)?;
-    let mut lowest = Lowest::at(begin.from, first, begin.to);
-    let mut area: i128 = 0;
-    let mut at = first;
-    for before in 0..edges.len() {
-        let edge = edges.get(at)?;
-        let mark = ring_of.get_mut(at)?;
-        if *mark != NO_NUMBER {
-            return None;
+impl Traced {
+    /// Adds the ring that begins with this edge, whose edges it marks with its number. The parts of
+    /// its edges become one. False where it doesn't come back, or where it has no area.
+    fn add_ring(
+        &mut self,
+        edges: &[HalfEdge],
+        next: &[u32],
+        first: usize,
+        parts: &mut Groups,
+    ) -> Result<bool, AllocError> {
+        let number = short(self.rings.len());
+        let Some(part) = edges.get(first).map(|edge| edge.part) else {
+            return Ok(false);
+        };
+        let begin = self.vertices.len();
+        let mut area: i128 = 0;
+        let mut at = first;
+        for _ in 0..edges.len() {
+            let (Some(edge), Some(mark), Some(following)) = (
+                edges.get(at),
+                self.ring_of.get_mut(at),
+                next.get(at),
+            ) else {
+                return Ok(false);
+            };
+            if *mark != NO_NUMBER || (edge.part != part && parts.join(part, edge.part).is_none()) {
+                return Ok(false);
+            }
+            *mark = number;
+            area = area.wrapping_add(i128::from(area_part(edge.from, edge.to)));
+            self.vertices.push(edge.from)?;
+            self.witnesses.push(edge.witness)?;
+            at = *following as usize;
+            if at == first {
+                return self.end_ring(first, begin, area);
+            }
         }
-        *mark = number;
-        if edge.part != begin.part {
-            parts.join(begin.part, edge.part)?;
-        }
-        area = area.wrapping_add(i128::from(area_part(edge.from, edge.to)));
-        lowest.compare(at, edge);
-        at = *next.get(at)? as usize;
-        if at == first {
-            return ring_with(first, before + 1, area, lowest.edge);
-        }
+        Ok(false)
     }
-    None
+
+    /// Adds the ring of the vertices from this place on. False where it has no area.
+    fn end_ring(&mut self, first: usize, begin: usize, area: i128) -> Result<bool, AllocError> {
+        self.rings.push(BoundaryRing {
+            first: short(first),
+            begin,
+            after: self.vertices.len(),
+            area,
+        })?;
+        Ok(area != 0)
+    }
 }
 
-/// A ring of these parts, or None where it has no area or a number is too great.
-fn ring_with(first: usize, count: usize, area: i128, lowest: usize) -> Option<BoundaryRing> {
-    if area == 0 {
-        return None;
+/// The number of the lowest of the edges of a ring at its vertex of least key, or `NO_NUMBER` where
+/// edges don't follow one another.
+pub(super) fn lowest_edge(edges: &[HalfEdge], next: &[u32], ring: &BoundaryRing) -> u32 {
+    let mut at = ring.first as usize;
+    let Some(begin) = edges.get(at) else {
+        return NO_NUMBER;
+    };
+    let mut lowest = Lowest::at(begin.from, at, begin.to);
+    for _ in ring.begin..ring.after {
+        let (Some(edge), Some(following)) = (edges.get(at), next.get(at)) else {
+            return NO_NUMBER;
+        };
+        lowest.compare(at, edge);
+        at = *following as usize;
     }
-    Some(BoundaryRing {
-        first: u32::try_from(first).ok()?,
-        count,
-        area,
-        lowest: u32::try_from(lowest).ok()?,
-    })
+    short(lowest.edge)
 }
 
 /// The lowest of the edges of a ring at its vertex of least key. All go to the right from there.
@@ -161,8 +196,6 @@ impl Lowest {
 /// each, keep the order of the rings. The only error is that memory was refused.
 pub(crate) fn add_outlines(
     alloc: Global,
-    edges: &[HalfEdge],
-    links: &Links,
     traced: &Traced,
     outlines: &mut Outlines,
 ) -> Result<(), AllocError> {
@@ -173,31 +206,16 @@ pub(crate) fn add_outlines(
     }
     order.sort_unstable_by_key(|pair| (pair.0, pair.1));
     for (_, number) in &order {
-        if let Some(ring) = traced.rings.get(*number) {
-            add_outline(alloc, edges, &links.next, ring, outlines)?;
+        let Some(BoundaryRing { begin, after, .. }) = traced.rings.get(*number).copied() else {
+            continue;
+        };
+        if let (Some(vertices), Some(witnesses)) = (
+            traced.vertices.get(begin..after),
+            traced.witnesses.get(begin..after),
+        ) {
+            outlines.rings.push(Vec::from_slice(alloc, vertices)?)?;
+            outlines.witnesses.extend_from_slice(witnesses)?;
         }
     }
-    Ok(())
-}
-
-/// Adds the vertices of a ring, from its vertex of least key on.
-fn add_outline(
-    alloc: Global,
-    edges: &[HalfEdge],
-    next: &[u32],
-    ring: &BoundaryRing,
-    outlines: &mut Outlines,
-) -> Result<(), AllocError> {
-    let mut vertices = Vec::with_capacity(alloc, ring.count)?;
-    let mut at = ring.first as usize;
-    for _ in 0..ring.count {
-        let (Some(edge), Some(following)) = (edges.get(at), next.get(at)) else {
-            break;
-        };
-        vertices.push(edge.from)?;
-        outlines.witnesses.push(edge.witness)?;
-        at = *following as usize;
-    }
-    outlines.rings.push(vertices)?;
     Ok(())
 }

@@ -13,18 +13,31 @@ use std::alloc::{AllocError, Global};
 pub(super) struct Successors {
     /// The old edges, unless they are far apart.
     range: Option<WitnessRange>,
-    /// Of each of them the number of an edge that comes of it, or `NO_NUMBER`.
+    /// Of each of them the number of an edge that comes of it and begins where no other one does, or
+    /// `NO_NUMBER`.
     edges: Vec<u32>,
 }
 
+/// The first of the edges that begin at a position.
+#[derive(Clone, Copy, Debug, PartialEq, Eq)]
+pub(super) struct Following {
+    /// Its number.
+    pub(super) first: u32,
+    /// Whether it is the only one.
+    pub(super) is_only: bool,
+}
+
 impl Successors {
-    /// Those of edges.
+    /// Those of edges, which are in their order.
     pub(super) fn of(alloc: Global, edges: &[HalfEdge]) -> Result<Successors, AllocError> {
         let range = WitnessRange::of(edges, &|edge: &HalfEdge| edge.witness);
         let count = range.map_or(0, |range| range.count());
         let mut by_witness = vec![in alloc; NO_NUMBER; count]?;
         if let Some(range) = range {
             for (number, edge) in edges.iter().enumerate() {
+                if !begins_alone(edges, number, edge.from) {
+                    continue;
+                }
                 if let Some(place) = by_witness.get_mut(range.place(edge.witness)) {
                     *place = short(number);
                 }
@@ -36,42 +49,42 @@ impl Successors {
         })
     }
 
-    /// The number of the first of these edges, which are in their order, that begins where this one
-    /// ends, if there is one.
+    /// The first of these edges, which are in their order, that begins where this one ends, if there
+    /// is one.
     #[inline]
-    pub(super) fn first_after(&self, edges: &[HalfEdge], edge: &HalfEdge) -> Option<usize> {
+    pub(super) fn after(&self, edges: &[HalfEdge], edge: &HalfEdge) -> Option<Following> {
+        let Some(range) = self.range else {
+            return found_after(edges, edge);
+        };
         for witness in [edge.witness.wrapping_add(1), edge.witness.wrapping_sub(1)] {
-            if let Some(number) = self.edge_of(witness) {
-                if begins_alone(edges, number, edge.to) {
-                    return Some(number);
-                }
+            let number = self.edges.get(range.place(witness)).copied();
+            let first = number.unwrap_or(NO_NUMBER);
+            if edges.get(first as usize).map(|next| next.from) == Some(edge.to) {
+                let is_only = true;
+                return Some(Following { first, is_only });
             }
         }
-        let first = first_from(edges, sweep_key(edge.to));
-        if edges.get(first)?.from == edge.to {
-            Some(first)
-        } else {
-            None
-        }
-    }
-
-    /// The number of an edge that comes of this old one, if one is known.
-    #[inline]
-    fn edge_of(&self, witness: u32) -> Option<usize> {
-        let number = *self.edges.get(self.range?.place(witness))?;
-        if number == NO_NUMBER {
-            None
-        } else {
-            Some(number as usize)
-        }
+        found_after(edges, edge)
     }
 }
 
-/// Whether an edge begins at a position, and no other one does.
+/// The same by a search.
+pub(super) fn found_after(edges: &[HalfEdge], edge: &HalfEdge) -> Option<Following> {
+    let first = first_from(edges, sweep_key(edge.to));
+    if edges.get(first)?.from == edge.to {
+        Some(Following {
+            first: short(first),
+            is_only: begins_alone(edges, first, edge.to),
+        })
+    } else {
+        None
+    }
+}
+
+/// Whether no edge beside the one of this number begins at a position.
 #[inline]
 fn begins_alone(edges: &[HalfEdge], number: usize, position: Point) -> bool {
     let before = edges.get(number.wrapping_sub(1)).map(|edge| edge.from);
-    let here = edges.get(number).map(|edge| edge.from);
     let after = edges.get(number.saturating_add(1)).map(|edge| edge.from);
-    here == Some(position) && before != here && after != here
+    before != Some(position) && after != Some(position)
 }

@@ -1,9 +1,10 @@
 //! Corners that are cut: edges that are taken away, and those that are put in their place.
 ghost use Rattle.std.specs.Prelude.{◌≤◌};
 
-use crate::boundary::{Touch, first_from, is_vertex, merged};
+use crate::boundary::{Boundary, Renumbered, Touch, first_from, is_vertex, links_after, merged};
 use crate::corners::sail::{Corner, Direction, det, sail};
 use crate::corners::wedge::{Wedge, position_at, step_between};
+use crate::near::edges::short;
 use crate::segment::HalfEdge;
 use crate::work::Work;
 use mvt_plane::{Point, side, sweep_key};
@@ -19,8 +20,7 @@ pub(crate) struct Cuts {
     removed: Vec<bool>,
     /// What is put in their place.
     added: Vec<HalfEdge>,
-    /// Of each edge that is the first to begin at a position, whether an edge there was taken away
-    /// or added.
+    /// Of each edge whether an edge where it begins was taken away or added.
     changed: Vec<bool>,
 }
 
@@ -74,14 +74,29 @@ impl Cuts {
         self.changed.get(touch.edge as usize) == Some(&true)
     }
 
-    /// The edges after these cuts. The only error is that memory was refused.
+    /// The boundary after these cuts of another one. None where that is no boundary. The only error is
+    /// that memory was refused.
     pub(crate) fn applied(
         self,
         alloc: Global,
-        edges: Vec<HalfEdge>,
-    ) -> Result<Vec<HalfEdge>, AllocError> {
-        let Cuts { removed, added, .. } = self;
-        merged(alloc, edges, removed, added)
+        boundary: Boundary,
+    ) -> Result<Option<Boundary>, AllocError> {
+        let Cuts {
+            removed,
+            added,
+            changed,
+            ..
+        } = self;
+        let mut stale = changed;
+        for spoke in &boundary.links.spokes {
+            if spoke.leaves {
+                mark(&mut stale, spoke.edge);
+            }
+        }
+        let Boundary { edges, links } = boundary;
+        let Renumbered { edges, numbers } = merged(alloc, edges, removed, added)?;
+        let links = links_after(alloc, &edges, links, &numbers, &stale)?;
+        Ok(links.map(|links| Boundary { edges, links }))
     }
 
     /// Cuts a wedge, if it is less than half a turn: its tip gives way to the sail of its cone.
@@ -119,9 +134,7 @@ impl Cuts {
     /// Takes away both edges of a wedge.
     fn remove(&mut self, edges: &[HalfEdge], wedge: &Wedge) {
         for number in [wedge.right.edge, wedge.left.edge] {
-            if let Some(mark) = self.removed.get_mut(number as usize) {
-                *mark = true;
-            }
+            mark(&mut self.removed, number);
         }
         for position in [wedge.tip, wedge.right.to, wedge.left.to] {
             self.mark_changed(edges, position);
@@ -131,8 +144,14 @@ impl Cuts {
     /// Notes that an edge at a position was taken away or added.
     fn mark_changed(&mut self, edges: &[HalfEdge], position: Point) {
         let first = first_from(edges, sweep_key(position));
-        if let Some(mark) = self.changed.get_mut(first) {
-            *mark = true;
+        let Some(begin) = edges.get(first).map(|edge| edge.from) else {
+            return;
+        };
+        for number in first..edges.len() {
+            if edges.get(number).map(|edge| edge.from) != Some(begin) {
+                return;
+            }
+            mark(&mut self.changed, short(number));
         }
     }
 
@@ -175,6 +194,13 @@ impl Cuts {
             })?;
         }
         Ok(())
+    }
+}
+
+/// Marks the edge of this number.
+fn mark(marks: &mut [bool], number: u32) {
+    if let Some(mark) = marks.get_mut(number as usize) {
+        *mark = true;
     }
 }
 

@@ -3,9 +3,9 @@
 mod generated;
 
 use super::{add_polygons_apart, cuts_of};
-use crate::boundary::{add_outlines, links_of, order_of, trace};
+use crate::boundary::{Boundary, add_outlines, trace};
 use crate::outlines::Outlines;
-use crate::segment::{HalfEdge, Tally};
+use crate::segment::{HalfEdge, Keyed, Tally};
 use crate::work::Work;
 use mvt_fault::Profile;
 use mvt_plane::{Point, twice_area};
@@ -189,7 +189,7 @@ fn at(rt: &impl Abort, coordinates: (i32, i32)) -> Point {
     Point::new(coordinates.0, coordinates.1).expect(rt, "a position")
 }
 
-/// The edges of rings, numbered as witnesses.
+/// The edges of rings, numbered as witnesses, in their order.
 fn edges_of(rt: &impl Abort, alloc: Global, rings: &[(u32, Coordinates)]) -> Vec<HalfEdge> {
     let mut edges = Vec::new(alloc);
     for &(source, ring) in rings {
@@ -211,6 +211,7 @@ fn edges_of(rt: &impl Abort, alloc: Global, rings: &[(u32, Coordinates)]) -> Vec
                 .expect(rt, "memory");
         }
     }
+    edges.sort_unstable_by_key(|edge: &HalfEdge| edge.keys());
     edges
 }
 
@@ -360,28 +361,27 @@ fn polygons_shrunk(
     rt: &impl Abort,
     alloc: Global,
     profile: Profile,
-    mut edges: Vec<HalfEdge>,
+    edges: Vec<HalfEdge>,
 ) -> (Vec<Vec<Vec<Point>>>, u64) {
     let mut work = Work::new(100_000);
     let mut count: u64 = 0;
-    edges.sort_unstable_by_key(|edge| order_of(edge));
+    let begun = Boundary::of(alloc, edges).expect(rt, "memory");
+    let mut boundary = begun.expect(rt, "links");
     for _ in 0..100 {
-        let links = links_of(alloc, &edges)
-            .expect(rt, "memory")
-            .expect(rt, "links");
-        let traced = trace(alloc, &edges, &links, &mut work)
+        let traced = trace(alloc, &boundary.edges, &boundary.links, &mut work)
             .expect(rt, "memory")
             .expect(rt, "rings");
-        let cuts = cuts_of(alloc, profile, true, &edges, &links, &traced, &mut work)
+        let cuts = cuts_of(alloc, profile, true, &boundary, &traced, &mut work)
             .expect(rt, "memory")
             .expect(rt, "work");
         if cuts.count == 0 {
             let mut outlines = no_outlines(alloc);
-            add_outlines(alloc, &edges, &links, &traced, &mut outlines).expect(rt, "memory");
+            add_outlines(alloc, &traced, &mut outlines).expect(rt, "memory");
             return (polygons_of(rt, alloc, outlines), count);
         }
         count = count.wrapping_add(cuts.count);
-        edges = cuts.applied(alloc, edges).expect(rt, "memory");
+        let left = cuts.applied(alloc, boundary).expect(rt, "memory");
+        boundary = left.expect(rt, "links");
     }
     assert!(rt; false, "it has no end");
     (Vec::new(alloc), count)

@@ -131,12 +131,19 @@ impl Chains {
         segment: &Segment,
     ) -> Result<u32, Stop> {
         let going_on = self.ending_above(below, key)?;
-        let chain = self.chain_mut(going_on)?;
+        self.go_on(going_on, number, segment)?;
+        Ok(going_on)
+    }
+
+    /// A chain, whose segment ends, goes on with another segment.
+    #[inline]
+    pub(crate) fn go_on(&mut self, chain: u32, number: u32, segment: &Segment) -> Result<(), Stop> {
+        let chain = self.chain_mut(chain)?;
         chain.from = segment.a;
         chain.to = segment.b;
         chain.end = sweep_key(segment.b);
         chain.segment = number;
-        Ok(going_on)
+        Ok(())
     }
 
     /// A chain begins directly above another one or above what is outside. Returns it.

@@ -12,11 +12,19 @@ use std::alloc::Global;
 /// What is noted while the line goes over segments.
 pub(crate) trait Notes {
     /// The segment of this number begins, directly above another one or above none
-    /// (`NO_SEGMENT`). Of those that begin at one position the lowest comes first.
-    fn begin(&mut self, number: u32, below: u32, work: &mut Work) -> Result<(), Stop>;
+    /// (`NO_SEGMENT`). Of those that begin at one position the lowest comes first. For the highest of
+    /// them `like` is given: what is directly above it is what is directly above that one, or above
+    /// none.
+    fn begin(
+        &mut self,
+        number: u32,
+        below: u32,
+        like: Option<u32>,
+        work: &mut Work,
+    ) -> Result<(), Stop>;
 
     /// What is directly above one segment is what is directly above another one too, as they show
-    /// at a position where the one begins or the other ends. Either may be none.
+    /// at a position where the other ends and none begins. The one may be none.
     fn go_on(&mut self, one: u32, other: u32) -> Result<(), Stop>;
 }
 
@@ -32,64 +40,115 @@ pub(crate) fn sweep<N: Notes>(
     work: &mut Work,
 ) -> Result<(), Stop> {
     let mut line = Line::new(alloc, segments)?;
-    let mut begin = 0;
-    let mut end = 0;
+    let mut events = Events::of(segments, ends);
     // at each position that is gone over a segment begins or ends
     for _ in 0..segments.len().saturating_mul(2) {
-        let Some(key) = next_key(segments, ends, begin, end) else {
+        let Some(key) = events.key() else {
             break;
         };
-        let after_begun = after_begun(segments, begin, key);
-        let after_ended = after_ended(segments, ends, end, key);
-        let ended = ends.get(end..after_ended).ok_or(Stop::GaveUp)?;
-        line.list_begun(begin, after_begun)?;
-        line.pass(key, ended, notes, work)?;
-        begin = after_begun;
-        end = after_ended;
+        let (begin, end) = (events.begin, events.end);
+        events.pass(key);
+        let ended = ends.get(end..events.end).ok_or(Stop::GaveUp)?;
+        line.pass(key, begin, events.begin, ended, notes, work)?;
     }
     Ok(())
 }
 
-/// The key of the next position at which a segment begins or ends, if there is one.
-#[inline]
-fn next_key(segments: &[Segment], ends: &[u32], begin: usize, end: usize) -> Option<i64> {
-    let begun = segments.get(begin).map(|segment| sweep_key(segment.a));
-    let ended = end_key(segments, ends, end);
-    match (begun, ended) {
-        (Some(begun), Some(ended)) => Some(begun.min(ended)),
-        (Some(key), None) | (None, Some(key)) => Some(key),
-        (None, None) => None,
-    }
+/// No position has so great a key.
+const AFTER_ALL: i64 = i64::MAX;
+
+/// The positions at which segments begin or end, in the order of their keys, from one on.
+#[derive(Clone, Copy)]
+struct Events<'a> {
+    segments: &'a [Segment],
+    ends: &'a [u32],
+    /// The number of the segment that begins next, and the key of the position where it does.
+    begin: usize,
+    begin_key: i64,
+    /// The same of the one that ends next, by its place in the order of ends.
+    end: usize,
+    end_key: i64,
 }
 
-/// The number after those of the segments that begin at the position of this key, from this number
-/// on.
-#[inline]
-fn after_begun(segments: &[Segment], from: usize, key: i64) -> usize {
-    for number in from..segments.len() {
-        if sweep_key(segments[number].a) != key {
-            return number;
+impl<'a> Events<'a> {
+    /// All of them.
+    fn of(segments: &'a [Segment], ends: &'a [u32]) -> Events<'a> {
+        let mut events = Events {
+            segments,
+            ends,
+            begin: 0,
+            begin_key: AFTER_ALL,
+            end: 0,
+            end_key: AFTER_ALL,
+        };
+        if let Some(first) = segments.first() {
+            events.begin_key = sweep_key(first.a);
+        }
+        events.end_key = events.end_key_at(0);
+        events
+    }
+
+    /// The key of the first of them, if there is one.
+    #[inline]
+    fn key(&self) -> Option<i64> {
+        let key = self.begin_key.min(self.end_key);
+        if key == AFTER_ALL { None } else { Some(key) }
+    }
+
+    /// Goes on after the first one, whose key this is.
+    #[inline]
+    fn pass(&mut self, key: i64) {
+        if self.begin_key == key {
+            self.pass_begun(key);
+        }
+        if self.end_key == key {
+            self.pass_ended(key);
         }
     }
-    segments.len()
-}
 
-/// The place after those of the ends at the position of this key, from this place on.
-#[inline]
-fn after_ended(segments: &[Segment], ends: &[u32], from: usize, key: i64) -> usize {
-    for place in from..ends.len() {
-        if end_key(segments, ends, place) != Some(key) {
-            return place;
+    /// Goes on after the segments that begin at the position of this key.
+    #[inline]
+    fn pass_begun(&mut self, key: i64) {
+        let segments = self.segments;
+        for number in self.begin..segments.len() {
+            let next = sweep_key(segments[number].a);
+            if next != key {
+                self.begin = number;
+                self.begin_key = next;
+                return;
+            }
+        }
+        self.begin = segments.len();
+        self.begin_key = AFTER_ALL;
+    }
+
+    /// The same of the ones that end there.
+    #[inline]
+    fn pass_ended(&mut self, key: i64) {
+        for place in self.end..self.ends.len() {
+            let next = self.end_key_at(place);
+            if next != key {
+                self.end = place;
+                self.end_key = next;
+                return;
+            }
+        }
+        self.end = self.ends.len();
+        self.end_key = AFTER_ALL;
+    }
+
+    /// The key of the second end of the segment whose number has this place.
+    #[inline]
+    fn end_key_at(&self, place: usize) -> i64 {
+        let segment = match self.ends.get(place) {
+            Some(number) => self.segments.get(*number as usize),
+            None => None,
+        };
+        match segment {
+            Some(segment) => sweep_key(segment.b),
+            None => AFTER_ALL,
         }
     }
-    ends.len()
-}
-
-/// The key of the second end of the segment whose number has this place.
-#[inline]
-fn end_key(segments: &[Segment], ends: &[u32], place: usize) -> Option<i64> {
-    let segment = segments.get(*ends.get(place)? as usize)?;
-    Some(sweep_key(segment.b))
 }
 
 /// The line, with the chains that it meets.
@@ -117,29 +176,94 @@ impl<'a> Line<'a> {
         })
     }
 
-    /// Goes over the position of a key, where segments end and those that were listed begin. As far
-    /// as there are chains that end, those that begin take their places.
+    /// Goes over the position of a key, where segments end, and those of the numbers from one up to
+    /// another begin. As far as there are chains that end, those that begin take their places.
     fn pass<N: Notes>(
         &mut self,
         key: i64,
+        begin: usize,
+        after: usize,
         ended: &[u32],
         notes: &mut N,
         work: &mut Work,
     ) -> Result<(), Stop> {
-        let mut chain = self.chain_below(key, ended, work)?;
-        let mut below = self.chains.segment(chain)?;
+        if let [only] = ended {
+            if begin.wrapping_add(1) == after {
+                return self.go_on(key, *only, begin, notes, work);
+            }
+        }
+        self.list_begun(begin, after)?;
+        let chain = self.chain_below(key, ended, work)?;
+        let below = self.chains.segment(chain)?;
         let highest = self.highest_ended(chain, below, ended)?;
-        for at in 0..self.begun.len() {
+        self.begin_all(key, chain, highest, ended.len(), notes, work)?;
+        if self.begun.is_empty() {
+            notes.go_on(below, highest)?;
+        }
+        Ok(())
+    }
+
+    /// Goes over the position of a key where one segment ends and another one begins.
+    #[inline]
+    fn go_on<N: Notes>(
+        &mut self,
+        key: i64,
+        ended: u32,
+        begun: usize,
+        notes: &mut N,
+        work: &mut Work,
+    ) -> Result<(), Stop> {
+        let chain = self.chain_ended(ended)?;
+        let below = self.chains.below(chain)?;
+        if self.chains.ends_at(below, key)? || !self.chains.ends_at(chain, key)? {
+            return Err(Stop::GaveUp);
+        }
+        let under = self.chains.segment(below)?;
+        let number = u32::try_from(begun).map_err(|_| Stop::GaveUp)?;
+        let segment = self.segment(number)?;
+        self.chains.go_on(chain, number, segment)?;
+        let place = self.chain_of.get_mut(begun);
+        *place.ok_or(Stop::GaveUp)? = chain;
+        notes.begin(number, under, Some(ended), work)
+    }
+
+    /// The segments that were listed begin, the lowest directly above a chain, and of the chains above
+    /// it, so many of which end, those end that aren't needed for them. `highest` is the highest of
+    /// the segments that end.
+    fn begin_all<N: Notes>(
+        &mut self,
+        key: i64,
+        chain: u32,
+        highest: u32,
+        ended: usize,
+        notes: &mut N,
+        work: &mut Work,
+    ) -> Result<(), Stop> {
+        let mut chain = chain;
+        let mut below = self.chains.segment(chain)?;
+        let count = self.begun.len();
+        for at in 0..count {
             let number = *self.begun.get(at).ok_or(Stop::GaveUp)?;
-            let goes_on = at < ended.len();
-            chain = self.put_above(chain, key, number, goes_on, work)?;
-            notes.begin(number, below, work)?;
+            chain = self.put_above(chain, key, number, at < ended, work)?;
+            let like = if at + 1 == count { Some(highest) } else { None };
+            notes.begin(number, below, like, work)?;
             below = number;
         }
-        for _ in self.begun.len()..ended.len() {
+        self.end_others(key, chain, ended.saturating_sub(count), work)
+    }
+
+    /// So many chains directly above another one end at the position of a key.
+    fn end_others(
+        &mut self,
+        key: i64,
+        chain: u32,
+        count: usize,
+        work: &mut Work,
+    ) -> Result<(), Stop> {
+        for _ in 0..count {
             self.chains.end_above(chain, key, work)?;
         }
-        notes.go_on(below, highest)
+        Ok(())
     }
 
     /// The highest of the segments that end at a position. Where none does, the segment of the chain
@@ -176,16 +300,23 @@ impl<'a> Line<'a> {
     /// The chain directly below those that end at the position of a key.
     fn chain_below_ended(&self, key: i64, ended: &[u32]) -> Result<u32, Stop> {
         for number in ended {
-            let chain = *self.chain_of.get(*number as usize).ok_or(Stop::GaveUp)?;
-            if chain == OUTSIDE {
-                return Err(Stop::GaveUp);
-            }
+            let chain = self.chain_ended(*number)?;
             let below = self.chains.below(chain)?;
             if !self.chains.ends_at(below, key)? {
                 return Ok(below);
             }
         }
         Err(Stop::GaveUp)
+    }
+
+    /// The chain of a segment that ends.
+    #[inline]
+    fn chain_ended(&self, number: u32) -> Result<u32, Stop> {
+        let chain = *self.chain_of.get(number as usize).ok_or(Stop::GaveUp)?;
+        if chain == OUTSIDE {
+            return Err(Stop::GaveUp);
+        }
+        Ok(chain)
     }
 
     /// A segment comes directly above a chain: with it the chain above goes on, or a chain begins.

@@ -4,17 +4,20 @@ ghost use Rattle.mvt_mend.specs.Calls.Judged.{AreJudged, IsRightMark};
 ghost use Rattle.mvt_polygon.specs.Polygons.{ArePolygons};
 ghost use Rattle.mvt_sweep.specs.Rings.{rings_of};
 
+use crate::kept::known::is_known_wrong;
 use mvt_feature::{FeatureCause, check_feature};
 use mvt_plane::{Count, Point};
 use mvt_polygon::{check_polygon, check_rings};
-use mvt_sweep::are_proper;
+use mvt_sweep::{Meeting, are_proper};
 use std::alloc::{AllocError, Global};
 
-/// Of each polygon whether it keeps all rules by itself.
+/// Of each polygon whether it keeps all rules by itself. `known` are edges that may meet wrongly, if
+/// such are known.
 pub(super) fn marks_of(
     alloc: Global,
     rings: &[Vec<Point>],
     polygons: &[(usize, usize)],
+    known: Option<&Meeting>,
 ) -> Result<Vec<bool>, AllocError>
     requires { ArePolygons (rings_of rings.now) polygons.now }
     ensures { IfOk result (λ right. AreJudged (rings_of rings.now) polygons.now right.items) }
@@ -22,7 +25,7 @@ pub(super) fn marks_of(
     let mut right = Vec::with_capacity(alloc, polygons.len())?;
     for polygon in 0..polygons.len() {
         let (exterior, after) = polygons[polygon];
-        right.push(is_right(alloc, rings, exterior, after)?)?;
+        right.push(is_right(alloc, rings, exterior, after, known)?)?;
     }
     Ok(right)
 }
@@ -33,12 +36,17 @@ fn is_right(
     rings: &[Vec<Point>],
     exterior: usize,
     after: usize,
+    known: Option<&Meeting>,
 ) -> Result<bool, AllocError>
     requires in_order { exterior < after }
     requires within { after ≤ length rings.now }
     ensures { IfOk result (IsRightMark (slice_range rings.now exterior after)) }
 {
-    are_right(alloc, &rings[exterior..after])
+    let polygon = &rings[exterior..after];
+    if is_known_wrong(polygon, exterior, known) {
+        return Ok(false);
+    }
+    are_right(alloc, polygon)
 }
 
 /// Whether the rings are those of one polygon that keeps all rules: three vertices or more each,

@@ -1,6 +1,6 @@
 //! Segments that meet in ends only, and what is filled between them.
 
-use crate::faces::{Faces, Sides, faces_of};
+use crate::faces::{Faces, faces_of};
 use crate::noding::node;
 use crate::order::ends_of;
 use crate::segment::{HalfEdge, Segment, Tally, Winding};
@@ -19,18 +19,23 @@ pub(super) enum Fill {
 
 impl Fill {
     /// Whether a place of this winding is filled.
+    #[inline]
     fn is_filled(self, winding: Winding) -> bool {
         match self {
             Fill::ExteriorLessHoles => winding.exterior != 0 && winding.holes == 0,
             Fill::Polygons => winding.exterior > 0,
         }
     }
+}
 
-    /// Whether the place just above a segment is filled.
-    #[inline]
-    fn above(self, segment: &Segment, sides: &Sides) -> bool {
-        self.is_filled(sides.winding.plus(segment.gain))
-    }
+/// On which side of a segment something is filled.
+#[derive(Clone, Copy, Debug, PartialEq, Eq)]
+enum FilledSide {
+    /// Just above it, and not below: its edge rises.
+    Above,
+    /// Just below it, and not above: its edge falls.
+    Below,
+    BothOrNone,
 }
 
 /// Segments that meet in ends only.
@@ -72,6 +77,9 @@ impl Arranged {
     /// of it is left.
     pub(super) fn strays(&self, alloc: Global, rings: usize) -> Result<Vec<bool>, AllocError> {
         let mut strays = vec![in alloc; false; rings]?;
+        if rings <= 1 {
+            return Ok(strays);
+        }
         let mut inside = vec![in alloc; false; rings]?;
         for (segment, sides) in self.segments.iter().zip(&self.faces.sides) {
             let below = sides.winding;
@@ -103,23 +111,23 @@ impl Arranged {
         fill: Fill,
         source: Option<u32>,
     ) -> Result<Vec<HalfEdge>, AllocError> {
-        self.join_parts(fill);
+        let filled = self.filled_sides(alloc, fill)?;
         let mut edges = Vec::with_capacity(alloc, self.segments.len())?;
         let mut ended = 0;
         // (edges that rise begin at first ends, and others at second ends; at one position these come
         // first)
-        for number in 0..self.segments.len() {
-            let Some(key) = self
-                .segments
-                .get(number)
-                .map(|segment| sweep_key(segment.a))
-            else {
+        for (number, side) in filled.iter().enumerate() {
+            if *side != FilledSide::Above {
+                continue;
+            }
+            let Some(segment) = self.segments.get(number).copied() else {
                 break;
             };
-            ended = self.add_falling(ended, key, fill, source, &mut edges)?;
-            self.add_edge(number, true, fill, source, &mut edges)?;
+            ended = self.add_falling(ended, sweep_key(segment.a), &filled, source, &mut edges)?;
+            let part = self.part(number, FilledSide::Above);
+            edges.push(half_edge(&segment, true, source, part))?;
         }
-        self.add_falling(ended, i64::MAX, fill, source, &mut edges)?;
+        self.add_falling(ended, i64::MAX, &filled, source, &mut edges)?;
         Ok(edges)
     }
 
@@ -129,7 +137,7 @@ impl Arranged {
         &mut self,
         from: usize,
         key: i64,
-        fill: Fill,
+        filled: &[FilledSide],
         source: Option<u32>,
         edges: &mut Vec<HalfEdge>,
     ) -> Result<usize, AllocError> {
@@ -137,50 +145,49 @@ impl Arranged {
             let Some(number) = self.ends.get(place).map(|number| *number as usize) else {
                 break;
             };
-            let Some(segment) = self.segments.get(number) else {
+            if filled.get(number) != Some(&FilledSide::Below) {
+                continue;
+            }
+            let Some(segment) = self.segments.get(number).copied() else {
                 continue;
             };
             if sweep_key(segment.b) > key {
                 return Ok(place);
             }
-            self.add_edge(number, false, fill, source, edges)?;
+            let part = self.part(number, FilledSide::Below);
+            edges.push(half_edge(&segment, false, source, part))?;
         }
         Ok(self.ends.len())
     }
 
-    /// Makes one of the faces on both sides of each segment where these are alike, so that faces are
-    /// the parts of what is filled.
-    fn join_parts(&mut self, fill: Fill) {
+    /// On which side of each segment something is filled. Where both sides are alike, the faces on
+    /// them become one, so that faces are the parts of what is filled.
+    fn filled_sides(&mut self, alloc: Global, fill: Fill) -> Result<Vec<FilledSide>, AllocError> {
+        let mut filled = Vec::with_capacity(alloc, self.segments.len())?;
         for (segment, sides) in self.segments.iter().zip(&self.faces.sides) {
-            if fill.above(segment, sides) == fill.is_filled(sides.winding) {
+            let below = fill.is_filled(sides.winding);
+            let above = fill.is_filled(sides.winding.plus(segment.gain));
+            if above == below {
                 let _ = self.faces.groups.join(sides.below, sides.above);
+                filled.push(FilledSide::BothOrNone)?;
+            } else if above {
+                filled.push(FilledSide::Above)?;
+            } else {
+                filled.push(FilledSide::Below)?;
             }
         }
+        Ok(filled)
     }
 
-    /// Adds the edge along the segment of this number, if something is filled on just one side of it
-    /// and the edge rises: from the end of lesser key to the other; or falls, where that is asked for.
+    /// The part of what is filled that is on this side of the segment of a number.
     #[inline]
-    fn add_edge(
-        &mut self,
-        number: usize,
-        rises: bool,
-        fill: Fill,
-        source: Option<u32>,
-        edges: &mut Vec<HalfEdge>,
-    ) -> Result<(), AllocError> {
-        let (Some(segment), Some(sides)) = (self.segments.get(number), self.faces.sides.get(number))
-        else {
-            return Ok(());
+    fn part(&mut self, number: usize, side: FilledSide) -> u32 {
+        let face = match (self.faces.sides.get(number), side) {
+            (Some(sides), FilledSide::Above) => sides.above,
+            (Some(sides), _) => sides.below,
+            (None, _) => 0,
         };
-        let is_filled_above = fill.above(segment, sides);
-        if is_filled_above == fill.is_filled(sides.winding) || is_filled_above != rises {
-            return Ok(());
-        }
-        let face = if rises { sides.above } else { sides.below };
-        let part = self.faces.groups.least(face).unwrap_or(face);
-        edges.push(half_edge(segment, rises, source, part))?;
-        Ok(())
+        self.faces.groups.least(face).unwrap_or(face)
     }
 }
 

@@ -64,7 +64,7 @@ fn mended(
     rings: &[&[(i32, i32)]],
 ) -> Result<MendedRings, AllocError> {
     let rings = rings_at(rt, alloc, rings)?;
-    let found = mend_rings(alloc, profile, &rings, &mut Work::new(MUCH_WORK))?;
+    let found = mend_rings(alloc, profile, &rings, None, &mut Work::new(MUCH_WORK))?;
     let found = found.expect(rt, "mended");
     assert!(rt;
         keep(rt, alloc, profile, &found.rings)?,
@@ -226,7 +226,7 @@ fn squares_are_joined(rt: HostRuntime) -> Result<(), AllocError> {
 fn no_work(rt: HostRuntime) -> Result<(), AllocError> {
     let rings = rings_at(&rt, rt.alloc(), &[&[(0, 0), (10, 10), (10, 0), (0, 10)]])?;
     for profile in [Profile::Polygon, Profile::Feature] {
-        let found = mend_rings(rt.alloc(), profile, &rings, &mut Work::new(0))?;
+        let found = mend_rings(rt.alloc(), profile, &rings, None, &mut Work::new(0))?;
         assert!(rt; found.is_none());
     }
     Ok(())

@@ -49,12 +49,13 @@ impl Meetings {
         ensures no_more { work.new ≤ work.old }
     {
         let (e, f) = (one.1, other.1);
+        // (most that meet have an end in common and nothing else)
+        if end_beside_common(e, f).is_some_and(|end| side(e.a, e.b, end).is_ne()) {
+            return Ok(());
+        }
         let from_side = side(e.a, e.b, f.a);
         let to_side = side(e.a, e.b, f.b);
         if are_on_one_side(from_side, to_side) {
-            return Ok(());
-        }
-        if have_one_end_in_common(e, f, from_side, to_side) {
             return Ok(());
         }
         let a_side = side(f.a, f.b, e.a);
@@ -125,19 +126,17 @@ fn are_on_one_side(first: Ordering, second: Ordering) -> bool {
     first == second && first.is_ne()
 }
 
-/// Whether two segments have one end in common and else nothing: if the other end of the second one,
-/// whose ends are on these sides of the first one, isn't on the line. (Most that meet do.)
+/// Where one end of the second segment is an end of the first one, its other end. If that isn't on the
+/// line of the first one, they have nothing else in common.
 #[inline]
-fn have_one_end_in_common(
-    one: &Segment,
-    other: &Segment,
-    from_side: Ordering,
-    to_side: Ordering,
-) -> bool {
-    if to_side.is_ne() && (other.a == one.a || other.a == one.b) {
-        return true;
+fn end_beside_common(one: &Segment, other: &Segment) -> Option<Point> {
+    if other.a == one.a || other.a == one.b {
+        Some(other.b)
+    } else if other.b == one.a || other.b == one.b {
+        Some(other.a)
+    } else {
+        None
     }
-    from_side.is_ne() && (other.b == one.a || other.b == one.b)
 }
 
 /// Whether a position on the line of a segment lies on the segment and isn't one of its ends.

@@ -69,13 +69,28 @@ impl Packing {
         self.levels.get(1)?.get(group).copied()
     }
 
-    /// The members of a group from the one at this place on: the segments' numbers and bounds.
+    /// The members of a group: the segments' numbers and bounds. None of a group that isn't there.
     #[inline]
-    pub(super) fn members(&self, group: usize, from: usize) -> Option<(&[u32], &[Bounds])> {
-        let begin = (*self.firsts.get(group)? as usize).checked_add(from)?;
-        let end = *self.firsts.get(group.checked_add(1)?)? as usize;
-        let bounds = self.levels.first()?;
-        Some((self.numbers.get(begin..end)?, bounds.get(begin..end)?))
+    pub(super) fn members(&self, group: usize) -> (&[u32], &[Bounds]) {
+        let begin = self.firsts.get(group).copied().unwrap_or(0) as usize;
+        let end = self
+            .firsts
+            .get(group.saturating_add(1))
+            .copied()
+            .unwrap_or(0) as usize;
+        match (self.numbers.get(begin..end), self.bounds().get(begin..end)) {
+            (Some(numbers), Some(bounds)) => (numbers, bounds),
+            _ => (&[], &[]),
+        }
+    }
+
+    /// The bounds of all segments.
+    #[inline]
+    fn bounds(&self) -> &[Bounds] {
+        match self.levels.first() {
+            Some(bounds) => bounds.as_slice(),
+            None => &[],
+        }
     }
 
     /// The place of all segments.

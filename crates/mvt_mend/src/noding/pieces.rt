@@ -5,7 +5,7 @@ ghost use Rattle.mvt_plane.specs.Geometry.Measure.{key_of};
 use crate::noding::packing::Packing;
 use crate::noding::stop::Stop;
 use crate::order::{merge_into, sorted_by_ends};
-use crate::segment::{Segment, Winding};
+use crate::segment::{Keyed, Segment, Winding};
 use mvt_plane::{Point, sweep_key};
 use std::alloc::{AllocError, Global};
 use std::mem;
@@ -26,14 +26,10 @@ pub(super) struct Pieces {
 }
 
 impl Pieces {
-    /// All of these, and all of them are fresh.
+    /// All of these, each of which goes from the end of lesser key to the other. All are fresh.
     pub(super) fn of(alloc: Global, segments: Vec<Segment>) -> Result<Pieces, AllocError> {
-        let mut fresh = segments;
-        for segment in fresh.iter_mut() {
-            *segment = between(segment, segment.a, segment.b);
-        }
         Ok(Pieces {
-            fresh: merged(alloc, fresh)?,
+            fresh: merged(alloc, segments)?,
             settled: Vec::new(alloc),
             first: Vec::new(alloc),
             index: None,
@@ -65,18 +61,6 @@ impl Pieces {
         if self.index.is_none() {
             self.index = Some(index);
         }
-    }
-
-    /// The one of this number, if it isn't without effect.
-    #[inline]
-    pub(super) fn get(&self, number: u32) -> Option<&Segment> {
-        let (list, place) = self.place(number);
-        let segment = match list {
-            List::Fresh => self.fresh.get(place),
-            List::First => self.first.get(place),
-            List::Settled => self.settled.get(place),
-        };
-        segment.filter(|segment| has_gain(segment))
     }
 
     /// The list that has the one of this number, and its place there.
@@ -126,7 +110,7 @@ impl Pieces {
         }
         self.fresh.retain(has_gain);
         self.settled.retain(has_gain);
-        merge_into(&mut self.settled, &self.fresh, &keys)?;
+        merge_into(&mut self.settled, &self.fresh)?;
         self.fresh.clear();
         Ok(())
     }
@@ -136,7 +120,7 @@ impl Pieces {
         let mut pieces = self;
         pieces.settle()?;
         pieces.first.retain(has_gain);
-        merge_into(&mut pieces.first, &pieces.settled, &keys)?;
+        merge_into(&mut pieces.first, &pieces.settled)?;
         Ok(pieces.first)
     }
 }
@@ -174,12 +158,6 @@ fn take_gain(segments: &mut [Segment], place: usize) -> Option<Segment> {
     Some(was)
 }
 
-/// By which segments are sorted.
-#[inline]
-fn keys(segment: &Segment) -> (i64, i64) {
-    (sweep_key(segment.a), sweep_key(segment.b))
-}
-
 /// Whether a segment isn't without effect.
 #[inline]
 fn has_gain(segment: &Segment) -> bool {
@@ -189,16 +167,43 @@ fn has_gain(segment: &Segment) -> bool {
 /// Segments sorted by their ends, with the gains of those that are equal added up, and without those
 /// of no gain, or of no length.
 fn merged(alloc: Global, segments: Vec<Segment>) -> Result<Vec<Segment>, AllocError> {
-    let mut sorted = sorted_by_ends(
-        alloc,
-        &segments,
-        &|segment: &Segment| segment.a,
-        &|segment: &Segment| segment.b,
-    )?;
-    drop(segments);
-    sorted.dedup_by(|segment, before| absorb(before, segment));
-    sorted.retain(|segment| has_gain(segment) && segment.a != segment.b);
+    let mut sorted = sorted_by_ends(alloc, segments)?;
+    let count = merge_equal(&mut sorted);
+    sorted.truncate(count);
     Ok(sorted)
+}
+
+/// Brings what is left of sorted segments to their front, where equal ones are merged, and those of no
+/// gain or no length left out. Returns how many they are.
+fn merge_equal(segments: &mut [Segment]) -> usize {
+    let mut count = 0usize;
+    for place in 0..segments.len() {
+        let segment = segments[place];
+        let last = count.wrapping_sub(1);
+        if let Some(before) = segments.get_mut(last) {
+            if absorb(before, &segment) {
+                continue;
+            }
+            if !has_effect(before) {
+                count = last;
+            }
+        }
+        if let Some(there) = segments.get_mut(count) {
+            *there = segment;
+        }
+        count = count.wrapping_add(1);
+    }
+    let last = count.wrapping_sub(1);
+    match segments.get(last) {
+        Some(segment) if !has_effect(segment) => last,
+        _ => count,
+    }
+}
+
+/// Whether a segment has a gain and a length.
+#[inline]
+fn has_effect(segment: &Segment) -> bool {
+    has_gain(segment) && segment.a != segment.b
 }
 
 /// Adds the gain of another segment to one if they have the same ends, and returns whether they do.
@@ -213,7 +218,8 @@ fn absorb(segment: &mut Segment, other: &Segment) -> bool {
 /// Adds the gain of a segment to the one of the same ends that isn't without effect, if there is one,
 /// and returns whether there is. They are sorted by ends.
 fn absorbs(segments: &mut Vec<Segment>, part: &Segment) -> bool {
-    let Ok(place) = segments.binary_search_by_key(&keys(part), keys) else {
+    let Ok(place) = segments.binary_search_by_key(&part.keys(), |segment: &Segment| segment.keys())
+    else {
         return false;
     };
     match segments.get_mut(place) {

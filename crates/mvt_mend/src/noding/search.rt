@@ -43,8 +43,18 @@ pub(super) fn find_meetings(
 #[derive(Clone, Copy)]
 struct Index<'a> {
     packing: &'a Packing,
-    /// The number of the piece that is the first one in the index.
+    /// The pieces that are in it.
+    pieces: &'a [Segment],
+    /// The number of the first of them.
     first: u32,
+}
+
+/// A piece whose meetings are looked for.
+#[derive(Clone, Copy)]
+struct Sought<'a> {
+    number: u32,
+    segment: &'a Segment,
+    bounds: Bounds,
 }
 
 /// A search for meetings.
@@ -72,7 +82,11 @@ impl<'a> Search<'a> {
         }
         Ok(Search {
             pieces,
-            fresh: Index { packing, first: 0 },
+            fresh: Index {
+                packing,
+                pieces: pieces.fresh(),
+                first: 0,
+            },
             first: short(first),
             settled: short(settled),
             meetings: Meetings::none(alloc),
@@ -87,12 +101,13 @@ impl<'a> Search<'a> {
         let Some(packing) = self.pieces.index() else {
             return Ok(());
         };
-        let (fresh, first) = (self.pieces.fresh(), self.pieces.first());
-        if first.len() < fresh.len() {
-            return self.look_up(self.first, first, self.fresh, work);
+        let (fresh, pieces) = (self.pieces.fresh(), self.pieces.first());
+        if pieces.len() < fresh.len() {
+            return self.look_up(self.first, pieces, self.fresh, work);
         }
         let index = Index {
             packing,
+            pieces,
             first: self.first,
         };
         self.look_up(0, fresh, index, work)
@@ -129,16 +144,22 @@ impl<'a> Search<'a> {
     fn look_up_one(
         &mut self,
         number: u32,
-        piece: &Segment,
+        segment: &Segment,
         index: Index,
         work: &mut Work,
     ) -> Result<(), Stop>
         ensures no_more { work.new ≤ work.old }
     {
-        let bounds = Bounds::of(piece);
+        let bounds = Bounds::of(segment);
+        let sought = Sought {
+            number,
+            segment,
+            bounds,
+        };
         let mut place = index.packing.root();
         while let Some(group) = index.packing.next_group(&mut place, &bounds, work)? {
-            self.with_members(number, &bounds, index, group, 0, work)?;
+            let (numbers, others) = index.packing.members(group);
+            self.with_members(&sought, index, numbers, others, work)?;
         }
         Ok(())
     }
@@ -147,11 +168,15 @@ impl<'a> Search<'a> {
     fn within(&mut self, group: usize, work: &mut Work) -> Result<(), Stop>
         ensures no_more { work.new ≤ work.old }
     {
-        let Some((numbers, bounds)) = self.fresh.packing.members(group, 0) else {
-            return Ok(());
-        };
-        for (place, (number, its)) in numbers.iter().zip(bounds).enumerate() {
-            self.with_members(*number, its, self.fresh, group, place + 1, work)?;
+        let fresh = self.fresh;
+        let (numbers, bounds) = fresh.packing.members(group);
+        for (place, number) in numbers.iter().enumerate() {
+            let Some(sought) = fresh.sought(*number, bounds.get(place)) else {
+                break;
+            };
+            let others = numbers.get(place + 1..).unwrap_or_default();
+            let theirs = bounds.get(place + 1..).unwrap_or_default();
+            self.with_members(&sought, fresh, others, theirs, work)?;
         }
         Ok(())
     }
@@ -175,54 +200,75 @@ impl<'a> Search<'a> {
     fn with_group(&mut self, group: usize, other: usize, work: &mut Work) -> Result<(), Stop>
         ensures no_more { work.new ≤ work.old }
     {
-        let (Some((numbers, bounds)), Some(around)) = (
-            self.fresh.packing.members(group, 0),
-            self.fresh.packing.group_bounds(other),
-        ) else {
+        let fresh = self.fresh;
+        let Some(around) = fresh.packing.group_bounds(other) else {
             return Ok(());
         };
         spend(work, GROUP as u64)?;
+        let (numbers, bounds) = fresh.packing.members(group);
+        let (others, theirs) = fresh.packing.members(other);
         for (number, its) in numbers.iter().zip(bounds) {
             if its.overlaps(&around) {
-                self.with_members(*number, its, self.fresh, other, 0, work)?;
+                let Some(sought) = fresh.sought(*number, Some(its)) else {
+                    break;
+                };
+                self.with_members(&sought, fresh, others, theirs, work)?;
             }
         }
         Ok(())
     }
 
-    /// Finds meetings of the piece of this number, which has these bounds, with members of a group
-    /// of an index from this place on.
+    /// Finds meetings of a piece with pieces of an index, given by their numbers there and their
+    /// bounds.
     fn with_members(
         &mut self,
-        number: u32,
-        bounds: &Bounds,
+        sought: &Sought,
         index: Index,
-        group: usize,
-        from: usize,
+        numbers: &[u32],
+        bounds: &[Bounds],
         work: &mut Work,
     ) -> Result<(), Stop>
         ensures no_more { work.new ≤ work.old }
     {
-        let Some((numbers, others)) = index.packing.members(group, from) else {
-            return Ok(());
-        };
         spend(work, numbers.len() as u64)?;
-        for (other, its) in numbers.iter().zip(others) {
-            if its.overlaps(bounds) {
-                self.test(number, index.first.wrapping_add(*other), work)?;
+        for (other, its) in numbers.iter().zip(bounds) {
+            if its.overlaps(&sought.bounds) {
+                self.test(sought, index, *other, work)?;
             }
         }
         Ok(())
     }
 
-    /// Tests whether two pieces meet.
-    fn test(&mut self, number: u32, other: u32, work: &mut Work) -> Result<(), Stop>
+    /// Tests whether a piece meets another one, given by its number in an index.
+    fn test(
+        &mut self,
+        sought: &Sought,
+        index: Index,
+        other: u32,
+        work: &mut Work,
+    ) -> Result<(), Stop>
         ensures no_more { work.new ≤ work.old }
     {
         spend(work, TEST_WORK)?;
-        let (Some(one), Some(its)) = (self.pieces.get(number), self.pieces.get(other)) else {
-            return Ok(());
-        };
-        self.meetings.add((number, one), (other, its), work)
+        let number = index.first.wrapping_add(other);
+        match index.pieces.get(other as usize) {
+            Some(its) if !its.gain.is_none() => {
+                self.meetings
+                    .add((sought.number, sought.segment), (number, its), work)
+            }
+            _ => Ok(()),
+        }
+    }
+}
+
+impl<'a> Index<'a> {
+    /// The piece of this number in it, which has these bounds.
+    #[inline]
+    fn sought(&self, number: u32, bounds: Option<&Bounds>) -> Option<Sought<'a>> {
+        Some(Sought {
+            number: self.first.wrapping_add(number),
+            segment: self.pieces.get(number as usize)?,
+            bounds: *bounds?,
+        })
     }
 }

@@ -1,4 +1,5 @@
 use super::node;
+use super::pieces::between;
 use crate::segment::{Segment, Tally, Winding};
 use crate::work::Work;
 use mvt_plane::{Count, Edge, Point, common};
@@ -8,15 +9,16 @@ use std::process::Abort;
 /// More than any of these tests takes.
 const MUCH: u64 = 1_000_000;
 
-/// The segment between two positions, of this gain.
-fn segment(rt: &impl Abort, a: (i32, i32), b: (i32, i32), exterior: i32) -> Segment {
-    Segment {
-        a: Point::new(a.0, a.1).expect(rt, "in range"),
-        b: Point::new(b.0, b.1).expect(rt, "in range"),
+/// The segment of an edge from one position to another, of this gain.
+fn segment(rt: &impl Abort, from: (i32, i32), to: (i32, i32), exterior: i32) -> Segment {
+    let segment = Segment {
+        a: Point::new(from.0, from.1).expect(rt, "in range"),
+        b: Point::new(to.0, to.1).expect(rt, "in range"),
         gain: Winding { exterior, holes: 0 },
         source: 0,
         witness: 0,
-    }
+    };
+    between(&segment, segment.a, segment.b)
 }
 
 /// What comes of segments, and how many crossings were counted.

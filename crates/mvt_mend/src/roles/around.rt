@@ -154,7 +154,13 @@ impl<'a> RingsAround<'a> {
 }
 
 impl Notes for RingsAround<'_> {
-    fn begin(&mut self, number: u32, below: u32, work: &mut Work) -> Result<(), Stop> {
+    fn begin(
+        &mut self,
+        number: u32,
+        below: u32,
+        _like: Option<u32>,
+        work: &mut Work,
+    ) -> Result<(), Stop> {
         let under = self.above.get(below as usize).copied().unwrap_or(NOWHERE);
         let segment = self.segments.get(number as usize).ok_or(Stop::GaveUp)?;
         let ring = segment.source;

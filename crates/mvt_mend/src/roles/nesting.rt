@@ -144,13 +144,7 @@ fn segments_of(alloc: Global, rings: &[&[Point]], order: &[u32]) -> Result<Vec<S
         let ring = rings.get(*number as usize).ok_or(Stop::GaveUp)?;
         list_edges(ring, *number, &mut segments)?;
     }
-    let sorted = sorted_by_ends(
-        alloc,
-        &segments,
-        &|segment: &Segment| segment.a,
-        &|segment: &Segment| segment.b,
-    )?;
-    Ok(sorted)
+    Ok(sorted_by_ends(alloc, segments)?)
 }
 
 /// Lists the edges of a ring.

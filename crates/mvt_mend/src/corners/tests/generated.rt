@@ -1,7 +1,7 @@
 //! Cells of a grid filled at random: whatever touches there, what is left of it is apart.
 
 use super::{polygons_apart, polygons_shrunk};
-use crate::segment::HalfEdge;
+use crate::segment::{HalfEdge, Keyed};
 use mvt_fault::Profile;
 use mvt_plane::{Count, Edge, Point, common, sweep_key};
 use std::alloc::Global;
@@ -81,7 +81,7 @@ const SIDES: [((i32, i32), (i32, i32), (i32, i32)); 4] = [
     ((0, 1), (0, 0), (-1, 0)),
 ];
 
-/// The sides of filled cells beside which nothing is filled.
+/// The sides of filled cells beside which nothing is filled, in their order.
 fn sides_of(
     rt: &impl Abort,
     alloc: Global,
@@ -114,6 +114,7 @@ fn sides_of(
                 .expect(rt, "memory");
         }
     }
+    edges.sort_unstable_by_key(|edge: &HalfEdge| edge.keys());
     edges
 }
 
