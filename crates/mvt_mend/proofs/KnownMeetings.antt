@@ -2,12 +2,13 @@
 -- that has such edges isn't right.
 use Rattle.std.proofs.Common.{◌≡◌, ◌≢◌, ℕ, suc, ◌+◌, ◌<◌, ◌⊎◌, inl, inr, Bool, true, false, ◌==◌, cond, List, length, Vec, refl, sym, ap, arith}
 use Rattle.std.specs.declared.alloc.Global.{Global}
+use Rattle.mvt_fault.specs.declared.ring.RingEdge.{RingEdge}
 use Rattle.mvt_plane.specs.Geometry.RationalPoint.{RationalPoint, LiesOn}
 use Rattle.mvt_plane.specs.Geometry.Ring.{next_round}
 use Rattle.mvt_plane.specs.Position.{Position}
 use Rattle.mvt_plane.specs.declared.geometry.edge.Edge.{Edge}
-use Rattle.mvt_rules.specs.Meeting.{EdgeNumber, IsEdgeOf, Follows, IsShared, forward, backward, MeetsWrongly}
-use Rattle.mvt_rules.specs.Polygon.{IsPolygon, IsRingOf}
+use Rattle.mvt_rules.specs.Meeting.{IsEdgeOf, IsShared, forward, backward, MeetsWrongly}
+use Rattle.mvt_rules.specs.Polygon.{IsPolygon}
 use Rattle.mvt_polygon.specs.Nesting.{one_polygon}
 use Rattle.mvt_sweep.specs.Rings.{rings_of}
 use Rattle.mvt_mend.specs.Calls.Judged.{AreRightRings}
@@ -28,7 +29,7 @@ not_after count number other is some differs = elim (which (suc number == count)
 ]
 
 -- they share no vertex
-pub none_shared : (rings : List (List Position)) (first second : EdgeNumber) (vertex : Position)
+pub none_shared : (rings : List (List Position)) (first second : RingEdge) (vertex : Position)
     → (first.ring ≢ second.ring) ⊎ ((0 < first.edge) × (first.edge + 1 < second.edge)) → ¬ IsShared rings first second vertex
 none_shared rings first second vertex (inl others) (forward it) = others (sym it.same)
 none_shared rings first second vertex (inl others) (backward it) = others it.same
@@ -36,7 +37,7 @@ none_shared rings first second vertex (inr between) (forward it) = not_after (le
 none_shared rings first second vertex (inr between) (backward it) = not_after (length it.ring) second.edge first.edge it.next between.0 (λ same. omega (arith, between.1, same))
 
 -- so a point that both have shows that they meet wrongly
-pub meets_at : (rings : List (List Position)) (first second : EdgeNumber) (point : RationalPoint)
+pub meets_at : (rings : List (List Position)) (first second : RingEdge) (point : RationalPoint)
     → (first.ring ≢ second.ring) ⊎ ((0 < first.edge) × (first.edge + 1 < second.edge))
     → ((it : Edge) × IsEdgeOf rings first it × LiesOn point it) → ((it : Edge) × IsEdgeOf rings second it × LiesOn point it)
     → MeetsWrongly rings first second point
@@ -51,14 +52,14 @@ meets_at rings first second point apart (one, one_there, on_one) (other, other_t
   forbidden = λ vertex shared. absurd (none_shared rings first second vertex apart shared);
 }
   where
-    are_different : (first second : EdgeNumber) → (first.ring ≢ second.ring) ⊎ ((0 < first.edge) × (first.edge + 1 < second.edge)) → ¬ (first ≡ second)
-    are_different first second (inl others) same = others (ap (λ (it : EdgeNumber). it.ring) same)
-    are_different first second (inr between) same = omega (arith, between.1, ap (λ (it : EdgeNumber). it.edge) same)
+    are_different : (first second : RingEdge) → (first.ring ≢ second.ring) ⊎ ((0 < first.edge) × (first.edge + 1 < second.edge)) → ¬ (first ≡ second)
+    are_different first second (inl others) same = others (ap (λ (it : RingEdge). it.ring) same)
+    are_different first second (inr between) same = omega (arith, between.1, ap (λ (it : RingEdge). it.edge) same)
 
 -- Polygons
 
 -- a polygon that has two edges that meet wrongly isn't right
-pub none_right : (rings : List (Vec Position Global)) (first second : EdgeNumber) (point : RationalPoint) → MeetsWrongly (rings_of rings) first second point
+pub none_right : (rings : List (Vec Position Global)) (first second : RingEdge) (point : RationalPoint) → MeetsWrongly (rings_of rings) first second point
     → IsPolygon (rings_of rings) 0 (record { exterior = 0; after = length rings }) → ¬ AreRightRings (rings_of rings)
 none_right rings first second point meets is_it right =
     let it = right.valid.polygons 0 (one_polygon (rings_of rings)) (as_one_polygon rings is_it) in

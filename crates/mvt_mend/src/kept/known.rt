@@ -8,6 +8,7 @@ ghost use Rattle.mvt_rules.specs.Polygon.{IsPolygon};
 ghost use Rattle.mvt_sweep.specs.Rings.{rings_of};
 
 use crate::near::edge_at;
+use mvt_fault::RingEdge;
 use mvt_plane::{Hpoint, Point, on_edge};
 use mvt_sweep::Meeting;
 
@@ -20,63 +21,59 @@ pub(super) fn is_known_wrong(rings: &[Vec<Point>], number: usize, known: Option<
     let Some(meeting) = known else {
         return false;
     };
-    let Some(first) = meeting.first_ring.checked_sub(number) else {
+    let Some(first_ring) = meeting.first_ring.checked_sub(number) else {
         return false;
     };
-    let Some(second) = meeting.second_ring.checked_sub(number) else {
+    let Some(second_ring) = meeting.second_ring.checked_sub(number) else {
         return false;
     };
-    let (one, other) = (meeting.first_edge, meeting.second_edge);
-    meet_wrongly(rings, first, one, second, other, &meeting.point)
+    let first = RingEdge {
+        ring: first_ring,
+        edge: meeting.first_edge,
+    };
+    let second = RingEdge {
+        ring: second_ring,
+        edge: meeting.second_edge,
+    };
+    meet_wrongly(rings, first, second, &meeting.point)
 }
 
-/// Whether two edges, each given by the number of its ring and its own, have this point in common and
-/// don't follow each other.
-fn meet_wrongly(
-    rings: &[Vec<Point>],
-    first_ring: usize,
-    first_edge: usize,
-    second_ring: usize,
-    second_edge: usize,
-    point: &Hpoint,
-) -> bool
-    ensures { IsTrue result → MeetsWrongly (rings_of rings.now)
-        (record { ring = first_ring; edge = first_edge })
-        (record { ring = second_ring; edge = second_edge }) point.now }
+/// Whether two edges have this point in common and don't follow each other.
+fn meet_wrongly(rings: &[Vec<Point>], first: RingEdge, second: RingEdge, point: &Hpoint) -> bool
+    ensures { IsTrue result → MeetsWrongly (rings_of rings.now) first second point.now }
 {
-    if !are_apart(first_ring, first_edge, second_ring, second_edge) {
+    if !are_apart(first, second) {
         return false;
     }
-    if !is_on_edge(rings, first_ring, first_edge, point) {
+    if !is_on_edge(rings, first, point) {
         return false;
     }
-    is_on_edge(rings, second_ring, second_edge, point)
+    is_on_edge(rings, second, point)
 }
 
 /// Whether two edges are of different rings, or some edge is between them in their ring both ways.
-fn are_apart(first_ring: usize, first_edge: usize, second_ring: usize, second_edge: usize) -> bool
-    ensures { IsTrue result → (first_ring ≢ second_ring)
-        ⊎ ((0 < first_edge) × (first_edge + 1 < second_edge)) }
+fn are_apart(first: RingEdge, second: RingEdge) -> bool
+    ensures { IsTrue result → (first.ring ≢ second.ring)
+        ⊎ ((0 < first.edge) × (first.edge + 1 < second.edge)) }
 {
-    if first_ring != second_ring {
+    if first.ring != second.ring {
         return true;
     }
-    0 < first_edge && first_edge < second_edge && second_edge - first_edge > 1
+    0 < first.edge && first.edge < second.edge && second.edge - first.edge > 1
 }
 
 /// Whether a ring has an edge of this number, and a point lies on it.
-fn is_on_edge(rings: &[Vec<Point>], ring: usize, edge: usize, point: &Hpoint) -> bool
-    ensures { IsTrue result → (it : Edge)
-        × IsEdgeOf (rings_of rings.now) (record { ring = ring; edge = edge }) it
+fn is_on_edge(rings: &[Vec<Point>], number: RingEdge, point: &Hpoint) -> bool
+    ensures { IsTrue result → (it : Edge) × IsEdgeOf (rings_of rings.now) number it
         × LiesOn point.now it }
 {
-    if ring >= rings.len() {
+    if number.ring >= rings.len() {
         return false;
     }
-    let vertices = &rings[ring];
-    if edge >= vertices.len() {
+    let vertices = &rings[number.ring];
+    if number.edge >= vertices.len() {
         return false;
     }
-    let it = edge_at(vertices, edge);
+    let it = edge_at(vertices, number.edge);
     on_edge(point, it.a, it.b)
 }
