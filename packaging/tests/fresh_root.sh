@@ -213,7 +213,7 @@ test_packages() {
     if [ -n "$is_debian" ]; then
         expect "apt-get install" by_apt
         expect "mvtgate-planet" run_planet
-        ! has /usr/lib/postgresql/15/lib/pgxs/src/makefiles/pgxs.mk "the extension in a fresh Debian" ||
+        ! has /usr/include/postgresql/15/server/postgres.h "the extension in a fresh Debian" ||
             expect "the extension for PostgreSQL" run_extension
         test_service
         expect "apt-get purge" purge

@@ -93,7 +93,7 @@ test_made() {
         "python3-mvtgate_${version}_amd64.deb" "mvtgate-$version.tgz")
     ! has /usr/lib/python3/dist-packages/build "the wheel" || ! has /usr/lib/python3/dist-packages/wheel "the wheel" ||
         names+=("mvtgate-$version-cp310-abi3-manylinux_2_34_x86_64.whl")
-    if has /usr/lib/postgresql/15/lib/pgxs/src/makefiles/pgxs.mk "the extension for PostgreSQL"; then
+    if has /usr/include/postgresql/15/server/postgres.h "the extension for PostgreSQL"; then
         names+=("postgresql-15-mvtgate_${version}_amd64.deb")
         packages+=(postgresql-15-mvtgate)
         expect "the C library that the extension names" needs_libc_alone postgresql-15-mvtgate \
