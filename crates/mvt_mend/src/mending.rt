@@ -47,11 +47,11 @@ pub struct MendedRings {
 }
 
 /// Rings in place of these, which are meant to keep the profile, or None where none were found
-/// within the work, or where nothing has an area. `known` are edges that may meet wrongly, if such
-/// are known: that spares a search, and changes nothing else. Each of their vertices is within two units of an edge of the rings that were
-/// given. By the profile `polygon` the polygons that keep all rules are still there, in their
-/// order, unless the first ring that has an area is a hole. The only error is that memory was
-/// refused.
+/// within the work, or where nothing has an area. Each of their vertices is within two units of an
+/// edge of the rings that were given. By the profile `polygon` the polygons that keep all rules are
+/// still there, in their order, unless the first ring that has an area is a hole. `known` are edges
+/// that may meet wrongly, if such are known: that spares a search, and changes nothing else. The only
+/// error is that memory was refused.
 pub fn mend_rings(
     alloc: Global,
     profile: Profile,

@@ -29,8 +29,9 @@ pub(crate) enum ChangesFound {
     Unmended(usize),
 }
 
-/// The changes to the features at these places, in their order, each of which has a fault. Where the caller asks for that, those
-/// that can't be mended are left out. The only error is that memory was refused.
+/// The changes to the features at these places, in their order, which have these faults. Where the
+/// caller asks for that, those that can't be mended are left out. The only error is that memory was
+/// refused.
 pub(crate) fn find_changes(
     alloc: Global,
     profile: Profile,
