@@ -37,6 +37,11 @@ def is_static(crate: str) -> bool:
     return "staticlib" in listed()[crate].partition(":")[0].split()
 
 
+def is_program(crate: str) -> bool:
+    """Whether a crate is built to a program."""
+    return (CRATES / crate / "src/main.rt").exists()
+
+
 def libraries() -> dict[str, list[str]]:
     """What each crate names, the toolchain's libraries too."""
     return {name: line.partition(":")[2].split() for name, line in listed().items()}

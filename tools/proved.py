@@ -1,23 +1,27 @@
 #!/usr/bin/env python3
-"""Which crates are proved as they stand: out/rlib/proved in a crate says by whom its library was made, and the sum of what it was
-made from.
+"""Which libraries are proved as their crates stand. They lie in out/proved, where `rt` doesn't look, with the sum of what they were
+made from: they hold statements and no proofs, and fit the libraries that they were made over alone.
 
 usage: proved.py sums    a line for each crate: its name and its sum
-       proved.py gate    notes what .ci/gate left, with the lines of `proved.py sums` from before it on standard input
-
-What tools/prove made, `rt` takes wherever it wants that crate. What the gate made has no proofs in it, and fits the libraries of the
-same run alone, so `rt` makes it anew; but a static library can be proved and built over all of them.
+       proved.py gate    takes over what .ci/gate left, with the lines of `proved.py sums` from before it on standard input
 """
 import functools
 import hashlib
+import pathlib
+import shutil
 import subprocess
 import sys
-from typing import Optional
 
 sys.dont_write_bytecode = True
 from crates import CRATES, PARTS, files, listed, within
 
-BY_PROVE, BY_GATE = "prove", "gate"
+# in a crate's folder: its library, and in it the sum that it was made from
+PROVED, SUM = "out/proved", "sum"
+
+
+def library_of(crate: str, crates: pathlib.Path = CRATES) -> pathlib.Path:
+    """Where the proved library of a crate in the folder `crates` lies."""
+    return crates / crate / PROVED / f"{crate}.rlib"
 
 
 @functools.cache
@@ -42,35 +46,42 @@ def sum_of(crate: str) -> str:
     return hashlib.sha256(toolchain().encode() + parts).hexdigest()
 
 
-def note(crate: str, by: str, total: str) -> None:
-    (CRATES / crate / "out/rlib/proved").write_text(f"{by} {total}\n", encoding="ascii")
+def note(crate: str, total: str) -> None:
+    """Notes that the library of a crate was made from the files with this sum."""
+    (CRATES / crate / PROVED / SUM).write_text(f"{total}\n", encoding="ascii")
 
 
 def forget(crate: str) -> None:
-    (CRATES / crate / "out/rlib/proved").unlink(missing_ok=True)
+    (CRATES / crate / PROVED / SUM).unlink(missing_ok=True)
 
 
-def proved_by(crate: str) -> Optional[str]:
-    """By whom the library of a crate was made as the crate is now, if it was."""
+def is_noted(crate: str) -> bool:
+    """Whether a library was made from the crate as it is now."""
     try:
-        by, total = (CRATES / crate / "out/rlib/proved").read_text(encoding="ascii").split()
-    except (OSError, ValueError):
-        return None
-    return by if total == sum_of(crate) else None
+        return (CRATES / crate / PROVED / SUM).read_text(encoding="ascii").strip() == sum_of(crate)
+    except OSError:
+        return False
 
 
-def note_gate(lines: list[str]) -> None:
-    """Notes the libraries of the gate. Those that an earlier run made, which `rt` put back, have its stamp."""
+def is_proved(crate: str) -> bool:
+    """Whether the libraries of a crate and of all that it stands on were made from these as they are now."""
+    return all(is_noted(it) for it in within(crate))
+
+
+def take_over(lines: list[str]) -> None:
+    """Takes over the libraries that the gate made. Those that an earlier run made have a stamp: `rt` put them back."""
     for crate, total in (it.split() for it in lines):
-        rlib = CRATES / crate / "out/rlib"
-        if rlib.is_dir() and not (rlib / "stamp").exists() and total == sum_of(crate):
-            note(crate, BY_GATE, total)
+        made, to = CRATES / crate / "out/rlib", CRATES / crate / PROVED
+        if made.is_dir() and not (made / "stamp").exists() and total == sum_of(crate):
+            shutil.rmtree(to, ignore_errors=True)
+            made.rename(to)
+            note(crate, total)
 
 
 if __name__ == "__main__":
     if sys.argv[1:] == ["sums"]:
         sys.stdout.writelines(f"{it} {sum_of(it)}\n" for it in listed())
     elif sys.argv[1:] == ["gate"]:
-        note_gate(sys.stdin.read().splitlines())
+        take_over(sys.stdin.read().splitlines())
     else:
         sys.exit(__doc__)
