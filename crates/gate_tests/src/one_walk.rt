@@ -29,8 +29,9 @@ fn says_yes(rt: HostRuntime) -> Result<(), Fail> {
          22 02 20 01 22 02 28 01 22 02 30 01 22 02 38 01",
     ] {
         let bytes = bytes_of(&rt, tile)?;
+        let mut passed = 0;
         assert!(rt;
-            passes_one_walk(rt.alloc(), &bytes, &mut NoRule)?,
+            passes_one_walk(rt.alloc(), &bytes, &mut NoRule, &mut passed)?,
             "of {tile}"
         );
     }

@@ -4,7 +4,7 @@ ghost use Rattle.mvt_gate.specs.Calls.FirstWalk.{IsFirstWalk};
 
 use crate::figures::FigureTest;
 use mvt_fault::Fault;
-use mvt_tile::{passes_one_walk, wire_fault};
+use mvt_tile::{passes_one_walk, wire_fault_after};
 use std::alloc::{AllocError, Global};
 
 /// What is known of the bytes of a tile before its polygons are looked at.
@@ -19,18 +19,20 @@ pub(crate) enum FirstWalk {
 }
 
 /// Walks over the bytes of a tile once. Where that doesn't say that they are right, but for polygons,
-/// it walks over them again, for wire faults. The only error is that memory was refused.
+/// it walks over what is left of them again, for wire faults. The only error is that memory was
+/// refused.
 pub(crate) fn first_walk(alloc: Global, bytes: &[u8]) -> Result<FirstWalk, AllocError>
     ensures { IfOk result (IsFirstWalk bytes.now) }
 {
     let mut figures = FigureTest::new();
-    if passes_one_walk(alloc, bytes, &mut figures)? {
+    let mut passed = 0;
+    if passes_one_walk(alloc, bytes, &mut figures, &mut passed)? {
         if figures.has_polygons {
             return Ok(FirstWalk::Whole);
         }
         return Ok(FirstWalk::Valid);
     }
-    match wire_fault(bytes) {
+    match wire_fault_after(bytes, passed) {
         Some(fault) => Ok(FirstWalk::Faulty(fault)),
         None => Ok(FirstWalk::Whole),
     }

@@ -6,6 +6,8 @@ pub mod EndFaults
 pub mod FieldFaults
 pub mod FieldPlaces
 pub mod FieldScans
+pub mod Known
+pub mod LaterParts
 pub mod LayerWalk
 pub mod Layers
 pub mod OneMoreField

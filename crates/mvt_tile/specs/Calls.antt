@@ -8,6 +8,7 @@ pub mod Gathered
 pub mod Least
 pub mod Names
 pub mod OneWalk
+pub mod Passed
 pub mod PassedLayers
 pub mod PassedTags
 pub mod Reading

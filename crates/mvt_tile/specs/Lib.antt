@@ -3,6 +3,7 @@ pub mod Calls
 pub mod FeatureBytes
 pub mod FirstFaults
 pub mod FreeFaults
+pub mod Passed
 pub mod ReadFault
 pub mod RuleFaults
 pub mod View

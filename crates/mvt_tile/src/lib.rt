@@ -20,4 +20,4 @@ pub use read::{ReadFault, read_tile};
 pub use record::{Feature, Kind, Layer, Tile, Value};
 pub use rules::{FeatureRule, check_layers, check_tags, rule_fault, rule_faults};
 pub use walk::{FeatureTest, passes_one_walk};
-pub use wire::wire_fault;
+pub use wire::{wire_fault, wire_fault_after};

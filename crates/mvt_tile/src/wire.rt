@@ -5,6 +5,7 @@ ghost use Rattle.mvt_wire.specs.declared.cause.WireCause.{WireCause};
 ghost use Rattle.mvt_wire.specs.declared.scope.Scope.{Scope};
 ghost use Rattle.mvt_fault.specs.Place.{IsLeast};
 ghost use Rattle.mvt_rules.specs.Parts.TrueFaults.{IsWireFault};
+ghost use Rattle.mvt_tile.specs.Passed.{IsPassed};
 
 mod field;
 mod layer;
@@ -33,8 +34,19 @@ pub fn wire_fault(bytes: &[u8]) -> Option<Fault>
         → ¬ WireFault bytes.now scope cause) }
     ensures least { IfSome result (IsLeast (IsWireFault bytes.now)) }
 {
+    wire_fault_after(bytes, 0)
+}
+
+/// The same where no wire fault is in front of an offset: the layers, values and features there
+/// aren't walked again.
+pub fn wire_fault_after(bytes: &[u8], passed: usize) -> Option<Fault>
+    requires { IsPassed bytes.now passed }
+    ensures none { IfNone result ((scope : Scope) (cause : WireCause)
+        → ¬ WireFault bytes.now scope cause) }
+    ensures least { IfSome result (IsLeast (IsWireFault bytes.now)) }
+{
     let mut own = FieldScan::new();
-    let mut layers = EmbeddedScan::new(Layers, LAYERS);
+    let mut layers = EmbeddedScan::new(Layers { passed }, LAYERS);
     let mut at = 0;
     'walk: loop {
         let (field, next) = match own.pass_usual::<0>(Message::Tile, bytes, at) {
@@ -54,20 +66,25 @@ pub fn wire_fault(bytes: &[u8]) -> Option<Fault>
     layers.first
 }
 
-/// The first fault of a layer.
+/// The first fault of a layer, where no wire fault is in front of an offset.
 #[derive(Drop)]
-struct Layers;
+struct Layers {
+    passed: usize,
+}
 
 impl EmbeddedCheck for Layers {
-    ghost use Rattle.mvt_tile.specs.Calls.Embedded.{IsFaultlessLayer, IsFirstOfLayer};
+    ghost use Rattle.mvt_tile.specs.Calls.Passed.{IsFaultlessAfter, IsFirstAfter};
 
     type Found = Fault;
 
-    ghost IsClean = { λ _. IsFaultlessLayer };
+    ghost IsClean = { λ check. IsFaultlessAfter check.passed };
 
-    ghost IsFound = { λ _. IsFirstOfLayer };
+    ghost IsFound = { λ check. IsFirstAfter check.passed };
 
     fn check(&self, part: Part<'_>, ordinal: usize) -> Option<Fault> {
-        layer_fault(part, ordinal)
+        if part.to < self.passed {
+            return None;
+        }
+        layer_fault(part, ordinal, self.passed)
     }
 }

@@ -1,5 +1,5 @@
 -- A walk over a layer, none of whose fields, values and features that were passed has a fault.
-use Rattle.std.proofs.Common.{◌≡◌, ◌≢◌, ℕ, ◌+◌, ◌-◌, ◌<◌, ◌≤◌, List, [], ◌∷◌, ◌++◌, length, take, false, is_some, Option, Some, refl, sym, ◌∙◌, subst, arith}
+use Rattle.std.proofs.Common.{◌≡◌, ◌≢◌, ℕ, ◌-◌, ◌<◌, ◌≤◌, List, [], ◌∷◌, ◌++◌, length, take, false, is_some, Option, Some, inl, inr, refl, sym, ◌∙◌, subst, arith}
 use Rattle.std.proofs.lemmas.List.{length-take-le}
 use Rattle.mvt_wire.specs.Embedded.{AreClean}
 use Rattle.mvt_wire.specs.Field.{Entry, entry_of}
@@ -20,6 +20,7 @@ use Rattle.mvt_tile.specs.Calls.Embedded.{HasNone, IsFaultlessLayer}
 use Rattle.mvt_tile.specs.Calls.FieldScan.{HasScanned, PassesNext}
 use Rattle.mvt_tile.specs.Calls.Least.{FindsLeastCause}
 use Rattle.mvt_tile.specs.Calls.OneWalk.{PassesFeature, PassesLayer, tells_none}
+use Rattle.mvt_tile.specs.Calls.Passed.{ArePassed, ArePartsPassed}
 use Rattle.mvt_tile.specs.Calls.Reading.{GivesSummary}
 use Rattle.mvt_tile.specs.Calls.RuleFaults.{AreAfterTags, IsLike, IsSummary}
 use Rattle.mvt_tile.specs.declared.rules.summary.LayerSummary.{LayerSummary}
@@ -29,6 +30,7 @@ use Rattle.mvt_tile.proofs.Reading.ScannedFeatures.{FitsRule-scanned, nothing_fo
 use Rattle.mvt_tile.proofs.RuleFaults.FeatureFaults.{good_layer}
 use Rattle.mvt_tile.proofs.RuleFaults.FeatureScan.{fewer, IsLike-counted}
 use Rattle.mvt_tile.proofs.RuleFaults.SummaryReading.{few_counted, IsSummary-from_told}
+use Rattle.mvt_tile.proofs.WireFaults.LaterParts.{passed_or_later}
 use Rattle.mvt_tile.proofs.WireFaults.Layers.{IsLayerFault-none}
 use Rattle.mvt_tile.proofs.WireFaults.Walking.{IsScanning, IsScanning-more, IsScanning-whole}
 
@@ -67,6 +69,17 @@ pub record IsLayerPassed (IsKept : Keeps) (bytes : List ℕ) (from to at : ℕ) 
 pub passed_unchanged : {IsKept : Keeps} {bytes : List ℕ} {from to at : ℕ} {own next_own : FieldScan} {summary : LayerSummary} {needs : TagNeeds} → IsLayerPassed IsKept bytes from to at own summary needs → next_own ≡ own
     → IsLayerPassed IsKept bytes from to at next_own summary needs
 passed_unchanged {IsKept} {bytes} {from} {to} {at} {summary = summary} {needs = needs} so_far same = subst (λ (scan : FieldScan). IsLayerPassed IsKept bytes from to at scan summary needs) (sym same) so_far
+
+-- up to here no value and no feature has a fault
+module _ {IsKept : Keeps} {bytes : List ℕ} {from to at : ℕ} {own : FieldScan} {summary : LayerSummary} {needs : TagNeeds} (so_far : IsLayerPassed IsKept bytes from to at own summary needs) where
+  none_before : (message : Message) (field_number : ℕ) → AreClean (HasNone message bytes) (spans_of field_number so_far.entries) → ArePassed message field_number bytes at (record { from = from; to = to })
+  none_before message field_number clean ordinal inner cause part fault = elim (passed_or_later (take to bytes) from at field_number so_far.entries part.entries so_far.scanning.passed part.whole ordinal inner part.here) [
+    | inl here ↦ absurd (clean ordinal inner here cause fault)
+    | inr later ↦ omega (arith, later.after, later.forward)
+  ]
+
+  pub parts_passed : ArePartsPassed bytes at (record { from = from; to = to })
+  parts_passed = record { values = none_before messages.Value 4 so_far.values; features = none_before messages.Feature 2 so_far.features }
 
 -- what is good by fewer needs and one rule is so by more needs and a more lenient rule
 module _ (IsKept Other : Keeps) (still : (it : FeatureRecord) → IsKept it → Other it) (bytes : List ℕ) (layer most : ℕ) (before needs : TagNeeds) (more_keys : before.keys ≤ needs.keys) (more_values : before.values ≤ needs.values) where

@@ -1,5 +1,5 @@
 -- A walk over a tile, none of whose fields and layers that were passed has a fault.
-use Rattle.std.proofs.Common.{◌≡◌, ◌≢◌, ℕ, ◌+◌, ◌≤◌, List, [], ◌∷◌, ◌++◌, length, take, false, is_some, Option, Some, None, refl, sym, ◌∙◌, ap, subst, arith}
+use Rattle.std.proofs.Common.{◌≡◌, ◌≢◌, ◌⊎◌, ℕ, ◌+◌, ◌≤◌, List, [], ◌∷◌, ◌++◌, length, take, false, is_some, Option, Some, None, inl, inr, refl, sym, ◌∙◌, ap, subst, arith}
 use Rattle.std.proofs.Math.Seq.{take-length}
 use Rattle.std.proofs.lemmas.List.{length-take-le}
 use Rattle.mvt_wire.specs.Field.{Entry, entry_of}
@@ -10,16 +10,21 @@ use Rattle.mvt_wire.specs.declared.cause.WireCause.{WireCause}
 use Rattle.mvt_wire.specs.declared.field.Field.{Field}
 use Rattle.mvt_wire.specs.declared.schema.Message.TheVariants as messages
 use Rattle.mvt_wire.specs.declared.scope.Scope.{Scope}
+use Rattle.mvt_wire.specs.declared.scope.Scope.TheVariants as scopes
+use Rattle.mvt_fault.specs.Cause.{wire_fault_in}
 use Rattle.mvt_fault.specs.declared.fault.Fault.{Fault}
 use Rattle.mvt_rules.specs.Parts.Fields.{FitsRule}
 use Rattle.mvt_rules.specs.Parts.TrueFaults.{IsFaultOfLayers}
+use Rattle.mvt_rules.specs.Scope.{IsPart, whole_span}
 use Rattle.mvt_rules.specs.Tile.{FeatureRecord, IsTile, TileRecord}
 use Rattle.mvt_rules.specs.WireFault.{EndFault, WireFault}
+use Rattle.mvt_tile.specs.Passed.{IsPassed}
 use Rattle.mvt_tile.specs.RuleFaults.{Keeps, KeepsRules}
-use Rattle.mvt_tile.specs.Calls.Embedded.{IsFaultlessLayer}
+use Rattle.mvt_tile.specs.Calls.Embedded.{IsFaultlessLayer, wire}
 use Rattle.mvt_tile.specs.Calls.FieldScan.{HasScanned, PassesNext}
 use Rattle.mvt_tile.specs.Calls.Least.{FindsLeastCause}
 use Rattle.mvt_tile.specs.Calls.OneWalk.{PassesLayer, tells_none}
+use Rattle.mvt_tile.specs.Calls.Passed.{ArePartsPassed, IsKnownTo}
 use Rattle.mvt_tile.specs.Calls.PassedLayers.{passed, EndsLayers, IsNextLayer, PassesLayers}
 use Rattle.mvt_tile.specs.declared.rules.layer_rules.LayerRules.{LayerRules}
 use Rattle.mvt_tile.specs.declared.rules.summary.LayerSummary.{LayerSummary}
@@ -30,6 +35,8 @@ use Rattle.mvt_tile.proofs.RuleFaults.FeatureFaults.{good_tile}
 use Rattle.mvt_tile.proofs.RuleFaults.RuleOrder.{no_rule_broken}
 use Rattle.mvt_tile.proofs.RuleFaults.TileScan.{Summarizes, IsNextLayer-given, EndsLayers-over}
 use Rattle.mvt_tile.proofs.WireFaults.CleanWalk.{CleanWalk, CleanWalk-nothing, CleanWalk-weaker, CleanWalk-other, CleanWalk-more, CleanWalk-over}
+use Rattle.mvt_tile.proofs.WireFaults.Known.{IsPart-after}
+use Rattle.mvt_tile.proofs.WireFaults.LaterParts.{LiesAfter, field_after, passed_or_later}
 use Rattle.mvt_tile.proofs.WireFaults.Tiles.{WireFault-none}
 use Rattle.mvt_tile.proofs.WireFaults.Walking.{IsScanning, IsScanning-more, IsScanning-whole}
 
@@ -40,6 +47,39 @@ IsRight IsKept bytes ordinal span = IsFaultlessLayer bytes ordinal span × Passe
 -- the walk at a place
 abbrev pub walk_to : List ℕ → ℕ → Walk
 walk_to bytes at = record { bytes = bytes; at = at }
+
+-- a layer without fault has none in front of any place
+no_fault_in : (bytes : List ℕ) (place ordinal : ℕ) (span : Span) → IsFaultlessLayer bytes ordinal span → IsKnownTo bytes place span
+no_fault_in bytes place ordinal span faultless = record {
+  own = λ cause fault. absurd (faultless (wire_fault_in (scopes.Layer ordinal) cause) (wire cause.code (scopes.Layer ordinal) cause.at cause.field (refl, fault)));
+  parts = record {
+    values = λ value inner cause part fault. absurd (faultless (wire_fault_in (scopes.Value ordinal value) cause) (wire cause.code (scopes.Value ordinal value) cause.at cause.field (refl, (inner, part, fault))));
+    features = λ feature inner cause part fault. absurd (faultless (wire_fault_in (scopes.Feature ordinal feature) cause) (wire cause.code (scopes.Feature ordinal feature) cause.at cause.field (refl, (inner, part, fault))));
+  };
+}
+
+-- where the layers that were passed have no fault in front of a place that the walk has reached, the tile has none
+module _ (bytes : List ℕ) (place : ℕ) {at : ℕ} (reached : place ≤ at) {count : ℕ} (so_far : CleanWalk (λ ordinal. IsKnownTo bytes place) 3 (take (length bytes) bytes) 0 (walk_to bytes at) count) where
+  known_or_later : (layer : ℕ) (span : Span) → IsPart bytes (whole_span bytes) 3 layer span → IsKnownTo bytes place span ⊎ LiesAfter at (length (take (length bytes) bytes)) span
+  known_or_later layer span part = elim (passed_or_later (take (length bytes) bytes) 0 at 3 so_far.entries part.entries so_far.walking.passed part.whole layer span part.here) [
+    | inl here ↦ inl (so_far.clean layer span here)
+    | inr later ↦ inr later
+  ]
+
+  all_passed : IsPassed bytes place
+  all_passed scopes.Tile cause fault = tt
+  all_passed (scopes.Layer layer) cause fault = elim (known_or_later layer fault.span fault.there) [
+    | inl known ↦ known.own cause fault.fault
+    | inr later ↦ omega (arith, later.after, later.forward)
+  ]
+  all_passed (scopes.Value layer value) cause fault = elim (known_or_later layer fault.there.0 fault.there.1) [
+    | inl known ↦ known.parts.values value fault.span cause fault.there.2 fault.fault
+    | inr later ↦ let lies = IsPart-after bytes fault.there.0 4 value fault.span fault.there.2 in omega (arith, later.after, lies.after, lies.forward)
+  ]
+  all_passed (scopes.Feature layer feature) cause fault = elim (known_or_later layer fault.there.0 fault.there.1) [
+    | inl known ↦ known.parts.features feature fault.span cause fault.there.2 fault.fault
+    | inr later ↦ let lies = IsPart-after bytes fault.there.0 2 feature fault.span fault.there.2 in omega (arith, later.after, lies.after, lies.forward)
+  ]
 
 -- What is known of the fields up to a place: none has a fault, nor has a layer among them, whose versions and names are kept.
 pub record IsTilePassed (IsKept : Keeps) (bytes : List ℕ) (at : ℕ) (own : FieldScan) (rules : LayerRules) : Type 0 where
@@ -67,6 +107,15 @@ passes_nothing IsKept bytes own rules scanned none passes = record {
 pub passed_unchanged : {IsKept : Keeps} {bytes : List ℕ} {at : ℕ} {own next_own : FieldScan} {rules : LayerRules} → IsTilePassed IsKept bytes at own rules → next_own ≡ own → IsTilePassed IsKept bytes at next_own rules
 passed_unchanged {IsKept} {bytes} {at} {rules = rules} so_far same = subst (λ (scan : FieldScan). IsTilePassed IsKept bytes at scan rules) (sym same) so_far
 
+-- what was passed has no fault in front of any place
+known_to : {IsKept : Keeps} {bytes : List ℕ} {at : ℕ} {own : FieldScan} {rules : LayerRules} (place : ℕ) (so_far : IsTilePassed IsKept bytes at own rules)
+    → CleanWalk (λ ordinal. IsKnownTo bytes place) 3 (take (length bytes) bytes) 0 (walk_to bytes at) so_far.count
+known_to {bytes = bytes} place so_far = CleanWalk-weaker (λ ordinal. IsKnownTo bytes place) (λ ordinal span right. no_fault_in bytes place ordinal span right.0) so_far.layers
+
+-- so nothing in front of the walk's place has one
+pub passed_to : {IsKept : Keeps} {bytes : List ℕ} {at : ℕ} {own : FieldScan} {rules : LayerRules} → IsTilePassed IsKept bytes at own rules → IsPassed bytes at
+passed_to {bytes = bytes} {at = at} so_far = all_passed bytes at (omega arith) (known_to at so_far)
+
 module _ {IsKept : Keeps} {bytes : List ℕ} {at : ℕ} {own next_own : FieldScan} {rules : LayerRules} (so_far : IsTilePassed IsKept bytes at own rules) {read : Field × ℕ} (next : PassesNext messages.Tile bytes at own next_own read) where
   -- the next field fits its rule
   pub fits_next : FitsRule messages.Tile (entry_of read.0)
@@ -88,6 +137,17 @@ module _ {IsKept : Keeps} {bytes : List ℕ} {at : ℕ} {own next_own : FieldSca
     -- a layer is the next of the tile
     pub next_layer : {summary : LayerSummary} → Summarizes bytes span summary → (tile : TileRecord) → IsTile bytes tile → IsNextLayer rules tile summary.version summary.name.now
     next_layer summarizes tile is = IsNextLayer-given (CleanWalk-weaker (λ ordinal other. Unit {0}) (λ ordinal other right. tt) so_far.layers) so_far.named is next.given own_layer span there summarizes
+
+    -- where it isn't passed, it may be known up to a place
+    pub passed_in_layer : (place : ℕ) → place ≤ span.to → ArePartsPassed bytes place span → IsPassed bytes place
+    passed_in_layer place inside parts =
+        let lies = field_after bytes read.1 (entry_of read.0) span next.given.encoded there in
+        let before = lies.before in
+        all_passed bytes place (omega arith) (CleanWalk-more (known_to place so_far) next.given own_layer span there (record { own = λ cause fault. inside; parts = parts }))
+
+    -- or have no wire fault
+    pub passed_layer : ((ordinal : ℕ) → IsFaultlessLayer bytes ordinal span) → IsPassed bytes read.1
+    passed_layer faultless = all_passed bytes read.1 (omega arith) (CleanWalk-more (known_to read.1 so_far) next.given own_layer span there (no_fault_in bytes read.1 so_far.count span (faultless so_far.count)))
 
     -- and passed where it is right
     pub passes_more : (Other : Keeps) → ((it : FeatureRecord) → IsKept it → Other it) → (more : LayerRules) → passed more ≡ passed rules + 1 → ((tile : TileRecord) → IsTile bytes tile → PassesLayers more tile)

@@ -1,5 +1,5 @@
 -- What is known while the fields of a tile are walked, and what it says of the tile's faults.
-use Rattle.std.proofs.Common.{◌≡◌, ℕ, ◌+◌, ◌≤◌, List, [], ◌∷◌, ◌++◌, length, take, Option, Some, None, IfSome, IfNone, sym, ◌∙◌, subst, arith}
+use Rattle.std.proofs.Common.{◌≡◌, ℕ, ◌+◌, ◌≤◌, List, [], ◌∷◌, ◌++◌, length, take, Option, Some, None, IfSome, IfNone, sym, ◌∙◌, ap, subst, arith}
 use Rattle.std.proofs.Math.Seq.{take-length}
 use Rattle.std.proofs.lemmas.List.{length-take-le}
 use Rattle.mvt_wire.specs.Field.{Entry, entry_of}
@@ -16,18 +16,21 @@ use Rattle.mvt_rules.specs.Parts.TrueFaults.{IsWireFault}
 use Rattle.mvt_fault.specs.Cause.{wire_fault_in}
 use Rattle.mvt_fault.specs.declared.fault.Fault.{Fault}
 use Rattle.mvt_wire.specs.Embedded.{FindsFirst}
+use Rattle.mvt_tile.specs.Passed.{IsPassed}
 use Rattle.mvt_tile.specs.Calls.Embedded.{IsFaultlessLayer, IsFirstOfLayer}
+use Rattle.mvt_tile.specs.Calls.Passed.{IsFaultlessAfter, IsFirstAfter, IsKnownTo}
 use Rattle.mvt_tile.specs.Calls.Least.{IsLeastCause, FindsLeastCause}
 use Rattle.mvt_tile.specs.Calls.FieldScan.{HasScanned, PassesNext, IsFirstFrom}
 use Rattle.mvt_tile.specs.declared.wire.Layers.{Layers}
 use Rattle.mvt_wire.specs.declared.embedded.EmbeddedScan.{EmbeddedScan}
 use Rattle.mvt_tile.specs.declared.wire.scan.FieldScan.{FieldScan}
+use Rattle.mvt_tile.proofs.WireFaults.Known.{FindsFirst-known, layer_known}
 use Rattle.mvt_tile.proofs.WireFaults.Tiles.{IsLeast-tile, IsLeast-layer, WireFault-none}
 use Rattle.mvt_tile.proofs.WireFaults.Walking.{IsScanning, IsScanning-more, IsScanning-whole}
 
 -- the scan has passed these fields
 abbrev pub ScansLayers : List ℕ → EmbeddedScan Layers Fault → List Entry → Type 0
-ScansLayers bytes scan entries = FindsFirst (IsFaultlessLayer bytes) (IsFirstOfLayer bytes) (spans_of scan.number entries) scan.count scan.first
+ScansLayers bytes scan entries = FindsFirst (IsFaultlessAfter scan.check.passed bytes) (IsFirstAfter scan.check.passed bytes) (spans_of scan.number entries) scan.count scan.first
 
 -- the fields that were passed, and what the two scans keep of them
 pub record TileWalk (bytes : List ℕ) (at : ℕ) (own : FieldScan) (layer_scan : EmbeddedScan Layers Fault) : Type 0 where
@@ -37,6 +40,7 @@ pub record TileWalk (bytes : List ℕ) (at : ℕ) (own : FieldScan) (layer_scan 
   pub layers : ScansLayers bytes layer_scan entries
   pub number : layer_scan.number ≡ 3
   pub few : layer_scan.count ≤ at
+  pub known : IsPassed bytes layer_scan.check.passed
 
 -- where the tile's own field wasn't passed the quick way, nothing has changed
 pub TileWalk-unchanged : {bytes : List ℕ} {at : ℕ} {own next_own : FieldScan} {layer_scan : EmbeddedScan Layers Fault} → TileWalk bytes at own layer_scan → next_own ≡ own → TileWalk bytes at next_own layer_scan
@@ -45,9 +49,9 @@ TileWalk-unchanged {bytes} {at} {layer_scan = layer_scan} so_far same = subst (�
 module _ (bytes : List ℕ) (at : ℕ) (own : FieldScan) (layer_scan : EmbeddedScan Layers Fault) (so_far : TileWalk bytes at own layer_scan) where
   -- one more field is passed
   pub TileWalk-more : (read : Field × ℕ) (next_own : FieldScan) (next_layers : EmbeddedScan Layers Fault) → PassesNext Tile bytes at own next_own read
-      → next_layers.number ≡ layer_scan.number → next_layers.count ≤ layer_scan.count + 1 → ((entries : List Entry) → ScansLayers bytes layer_scan entries → ScansLayers bytes next_layers (entries ++ entry_of read.0 ∷ []))
+      → next_layers.check ≡ layer_scan.check → next_layers.number ≡ layer_scan.number → next_layers.count ≤ layer_scan.count + 1 → ((entries : List Entry) → ScansLayers bytes layer_scan entries → ScansLayers bytes next_layers (entries ++ entry_of read.0 ∷ []))
       → TileWalk bytes read.1 next_own next_layers
-  TileWalk-more read next_own next_layers next number count noted =
+  TileWalk-more read next_own next_layers next check number count noted =
       let further = next.given.further in
       let few = so_far.few in
       record {
@@ -57,6 +61,7 @@ module _ (bytes : List ℕ) (at : ℕ) (own : FieldScan) (layer_scan : EmbeddedS
         layers = noted so_far.entries so_far.layers;
         number = number ∙ so_far.number;
         few = omega arith;
+        known = subst (IsPassed bytes) (sym (ap (λ (layers : Layers). layers.passed) check)) so_far.known;
       }
 
   -- or has a fault, which is the first of the tile
@@ -94,4 +99,6 @@ module _ (bytes : List ℕ) (at : ℕ) (own : FieldScan) (layer_scan : EmbeddedS
       pub TileWalk-layers : IfNone layer_scan.first ((scope : Scope) (cause : WireCause) → ¬ WireFault bytes scope cause) × IfSome layer_scan.first (IsLeast (IsWireFault bytes))
       TileWalk-layers =
           first_of_layers layer_scan.first
-          (subst (λ (n : ℕ). FindsFirst (IsFaultlessLayer bytes) (IsFirstOfLayer bytes) (spans_of n so_far.entries) layer_scan.count layer_scan.first) so_far.number so_far.layers)
+          (FindsFirst-known (IsFaultlessLayer bytes) (IsFirstOfLayer bytes) (λ ordinal. IsKnownTo bytes layer_scan.check.passed) (spans_of 3 so_far.entries) layer_scan.count layer_scan.first
+          (λ ordinal span here. layer_known bytes layer_scan.check.passed so_far.known ordinal span (record { entries = so_far.entries; whole = whole; here = here }))
+          (subst (λ (n : ℕ). FindsFirst (IsFaultlessAfter layer_scan.check.passed bytes) (IsFirstAfter layer_scan.check.passed bytes) (spans_of n so_far.entries) layer_scan.count layer_scan.first) so_far.number so_far.layers))

@@ -1,9 +1,10 @@
 //! A layer of a tile in one walk (Mapbox Vector Tile Specification 2.1, section 4.1).
-ghost use Rattle.std.specs.Prelude.{◌≡◌, ℕ, IfOk, IfSome};
+ghost use Rattle.std.specs.Prelude.{◌≡◌, ◌≤◌, ℕ, IfNone, IfOk, IfSome};
 ghost use Rattle.mvt_wire.specs.Embedded.{Holds, span_in};
 ghost use Rattle.mvt_rules.specs.Tile.{FeatureRecord, IsLayer, LayerRecord};
 ghost use Rattle.mvt_tile.specs.Calls.Embedded.{IsFaultlessLayer};
 ghost use Rattle.mvt_tile.specs.Calls.OneWalk.{PassesLayer};
+ghost use Rattle.mvt_tile.specs.Calls.Passed.{ArePartsPassed};
 ghost use Rattle.mvt_tile.specs.Calls.RuleFaults.{IsSummary};
 
 use super::feature::{FeatureTest, passes_feature};
@@ -16,8 +17,9 @@ use mvt_wire::{Message, Part};
 use std::alloc::AllocError;
 
 /// The summary of the layer that a part of the bytes holds, if it is known to have no wire fault, and
-/// features without fault of their tags that keep the further rule. None may be said of any layer.
-/// The only error is that memory was refused.
+/// features without fault of their tags that keep the further rule. None may be said of any layer,
+/// with the offset up to which its values and features have no wire fault. The only error is that
+/// memory was refused.
 ///
 /// Its keys and values may come after its features, so tags are checked as if the layer had as many
 /// of both as it has bytes. At its end it has to have as many as they need.
@@ -25,6 +27,7 @@ pub(crate) fn walk_layer<'a, T: FeatureTest>(
     part: Part<'a>,
     test: &mut T,
     buffer: &mut FeatureBuffer,
+    passed: &mut usize,
 ) -> Result<Option<LayerSummary<'a>>, AllocError>
     ensures wire { IfOk result (λ found. IfSome found (λ _. (ordinal : ℕ)
         → IsFaultlessLayer part.entry.bytes.now ordinal (span_in part.entry))) }
@@ -34,6 +37,9 @@ pub(crate) fn walk_layer<'a, T: FeatureTest>(
         → PassesLayer (T.IsKept test.new) part.entry.bytes.now ordinal (span_in part.entry))) }
     ensures still { IfOk result (λ found. IfSome found (λ _. (feature_record : FeatureRecord)
         → T.IsKept test.old feature_record → T.IsKept test.new feature_record)) }
+    ensures passed { IfOk result (λ found. IfNone found
+        (ArePartsPassed part.entry.bytes.now passed.new (span_in part.entry))) }
+    ensures inside { IfOk result (λ found. IfNone found (passed.new ≤ part.entry.to)) }
 {
     let front = &part.bytes[..part.to];
     let most = part.to - part.from;
@@ -47,17 +53,20 @@ pub(crate) fn walk_layer<'a, T: FeatureTest>(
             let (from, to) = payload_span(field.body);
             let bytes = part.bytes;
             if !passes_feature(Part { bytes, from, to }, test, buffer, most, &mut needs)? {
+                *passed = at;
                 return Ok(None);
             }
         } else if field.number == VALUES {
             let (from, to) = payload_span(field.body);
             let bytes = part.bytes;
             if !is_one_field(Part { bytes, from, to }) {
+                *passed = at;
                 return Ok(None);
             }
         }
         at = next;
     }
+    *passed = at;
     if at != part.to || own.end_fault(Message::Layer, part.to).is_some() {
         return Ok(None);
     }

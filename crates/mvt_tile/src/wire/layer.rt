@@ -1,7 +1,7 @@
 //! The faults of a layer and of the messages in it.
 ghost use Rattle.std.specs.Prelude.{MatchOption};
 ghost use Rattle.mvt_wire.specs.Embedded.{span_in};
-ghost use Rattle.mvt_tile.specs.Calls.Embedded.{IsFaultlessLayer, IsFirstOfLayer};
+ghost use Rattle.mvt_tile.specs.Calls.Passed.{IsFaultlessAfter, IsFirstAfter};
 
 use crate::wire::message::MessageCheck;
 use crate::wire::scan::FieldScan;
@@ -11,15 +11,25 @@ use mvt_wire::{EmbeddedScan, Message, Part, Scope};
 
 /// The first fault of the layer with an ordinal, which a part of the bytes holds: that of its own
 /// fields, or else of its values, or else of its features (Mapbox Vector Tile Specification 2.1,
-/// section 4.1). The layer is walked once.
-pub(crate) fn layer_fault(part: Part<'_>, layer: usize) -> Option<Fault>
-    ensures { MatchOption result (IsFaultlessLayer part.entry.bytes.now layer (span_in part.entry))
-        (λ fault. IsFirstOfLayer part.entry.bytes.now fault layer (span_in part.entry)) }
+/// section 4.1). The layer is walked once, but for the values and features in front of an offset, if
+/// these have none.
+pub(crate) fn layer_fault(part: Part<'_>, layer: usize, passed: usize) -> Option<Fault>
+    ensures { MatchOption result
+        (IsFaultlessAfter passed part.entry.bytes.now layer (span_in part.entry))
+        (λ fault. IsFirstAfter passed part.entry.bytes.now fault layer (span_in part.entry)) }
 {
     let front = &part.bytes[..part.to];
     let mut own = FieldScan::new();
-    let mut values = EmbeddedScan::new(MessageCheck(Message::Value), VALUES);
-    let mut features = EmbeddedScan::new(MessageCheck(Message::Feature), FEATURES);
+    let of_values = MessageCheck {
+        message: Message::Value,
+        passed,
+    };
+    let of_features = MessageCheck {
+        message: Message::Feature,
+        passed,
+    };
+    let mut values = EmbeddedScan::new(of_values, VALUES);
+    let mut features = EmbeddedScan::new(of_features, FEATURES);
     let mut at = part.from;
     'walk: loop {
         let (field, next) = match own.pass_usual::<1>(Message::Layer, front, at) {

@@ -1,5 +1,5 @@
 //! The first fault of one message.
-ghost use Rattle.mvt_tile.specs.Calls.Embedded.{HasFault, HasNone, HasFirst};
+ghost use Rattle.mvt_tile.specs.Calls.Embedded.{HasFault};
 ghost use Rattle.mvt_tile.specs.Calls.Least.{FindsLeastCause};
 ghost use Rattle.mvt_wire.specs.Embedded.{span_in};
 
@@ -32,24 +32,32 @@ pub(crate) fn message_fault<const COPY: usize>(
     }
 }
 
-/// The first fault of each message that another one holds.
+/// The first fault of each message that another one holds, if those in front of an offset have none.
 #[derive(Drop)]
-pub(crate) struct MessageCheck(pub(crate) Message);
+pub(crate) struct MessageCheck {
+    pub(crate) message: Message,
+    pub(crate) passed: usize,
+}
 
 impl EmbeddedCheck for MessageCheck {
+    ghost use Rattle.mvt_tile.specs.Calls.Passed.{HasFirstAfter, HasNoneAfter};
+
     type Found = (usize, WireCause);
 
-    ghost IsClean = { λ check. HasNone check.0 };
+    ghost IsClean = { λ check. HasNoneAfter check.message check.passed };
 
-    ghost IsFound = { λ check. HasFirst check.0 };
+    ghost IsFound = { λ check. HasFirstAfter check.message check.passed };
 
     #[inline(always)]
     fn check(&self, part: Part<'_>, ordinal: usize) -> Option<(usize, WireCause)> {
+        if part.to <= self.passed {
+            return None;
+        }
         // (the copies differ only in what the compiler knows of the message)
-        let cause = match self.0 {
-            Message::Value => message_fault::<2>(self.0, part)?,
-            Message::Feature => message_fault::<3>(self.0, part)?,
-            _ => message_fault::<4>(self.0, part)?,
+        let cause = match self.message {
+            Message::Value => message_fault::<2>(self.message, part)?,
+            Message::Feature => message_fault::<3>(self.message, part)?,
+            _ => message_fault::<4>(self.message, part)?,
         };
         Some((ordinal, cause))
     }

@@ -18,3 +18,6 @@ returns-then-branch c = λ profile.
         | inr some ↦ absurd (both_ways _ c.if-figures.false some)
       ];
     })
+
+pub wire_fault_after-requires : goal.wire_fault_after-requires
+wire_fault_after-requires c = c.in_ok-passes_one_walk.ensures.passed c.if-branch.false

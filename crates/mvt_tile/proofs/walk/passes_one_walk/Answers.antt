@@ -1,7 +1,7 @@
 use Rattle.std.proofs.Common.{refl, arith}
 use Rattle.std.proofs.lemmas.Option.{MatchOption-at_some}
 use Rattle.mvt_wire.specs.declared.schema.Message.TheVariants.{Tile}
-use Rattle.mvt_tile.proofs.OneWalk.Tiles.{fits_next, passed_unchanged, passes_nothing, passes_other, next_layer, passes_more, no_wire_fault, keeps_rules}
+use Rattle.mvt_tile.proofs.OneWalk.Tiles.{fits_next, passed_unchanged, passes_nothing, passes_other, next_layer, passes_more, passed_to, passed_in_layer, passed_layer, no_wire_fault, keeps_rules}
 use Rattle.mvt_tile.proofs.Reading.ReadingRules.{own_type}
 use Rattle.mvt_tile.proofs.walk.passes_one_walk.Goals as goal
 
@@ -31,3 +31,18 @@ returns-in-None-clause-wire over c = λ passes.
 pub returns-in-None-clause-rules : goal.returns-in-None-clause-rules
 returns-in-None-clause-rules over c = λ passes.
     keeps_rules (omega (arith, c.walk.invariant.within, c.if-at-bytes.false)) c.walk.invariant c.in-None.ensures.none
+
+pub returns-in_default-2-clause-passed : goal.returns-in_default-2-clause-passed
+returns-in_default-2-clause-passed over c = λ fails.
+    passed_in_layer c.walk.invariant c.in-Some.ensures.passed c.if-field-eq-LAYERS.true _ c.payload_span-from.ensures c.walk_layer.new.passed
+    (rw c.in_default-2.is at c.in_ok-summary.ensures.inside) (rw c.in_default-2.is at c.in_ok-summary.ensures.passed)
+
+pub returns-then-not-branch-clause-passed : goal.returns-then-not-branch-clause-passed
+returns-then-not-branch-clause-passed over c = λ fails.
+    passed_layer c.walk.invariant c.in-Some.ensures.passed c.if-field-eq-LAYERS.true _ c.payload_span-from.ensures (MatchOption-at_some _ _ _ c.in-Some-2.is c.in_ok-summary.ensures.wire)
+
+pub returns-then-at-bytes-clause-passed : goal.returns-then-at-bytes-clause-passed
+returns-then-at-bytes-clause-passed over c = λ fails. passed_to c.walk.invariant
+
+pub returns-clause-passed : goal.returns-clause-passed
+returns-clause-passed over c = λ fails. passed_to c.walk.invariant

@@ -1,7 +1,7 @@
 use Rattle.std.proofs.Common.{refl, arith}
 use Rattle.mvt_wire.specs.declared.schema.Message.TheVariants.{Layer}
 use Rattle.mvt_wire.proofs.Encoding.Payloads.{LiesIn-field}
-use Rattle.mvt_tile.proofs.OneWalk.Layers.{fits_next, room_next, passed_unchanged, passes_other, passes_value, passes_feature, faultless_layer, summary_passed, passes_layer}
+use Rattle.mvt_tile.proofs.OneWalk.Layers.{fits_next, room_next, passed_unchanged, passes_other, passes_value, passes_feature, parts_passed, faultless_layer, summary_passed, passes_layer}
 use Rattle.mvt_tile.proofs.Reading.ReadingRules.{own_type}
 use Rattle.mvt_tile.proofs.walk.layer.walk_layer.Goals as goal
 
@@ -72,3 +72,15 @@ pub returns-clause-rules : goal.returns-clause-rules
 returns-clause-rules over c =
     let part = c.args.part in
     passes_layer (over.T.FeatureTest.IsKept c.walk.test) part.bytes.now part.from part.to part.forward part.within c.if-at-part.false c.walk.invariant.0 (omega (arith, c.if-needs-summary.false)) (omega (arith, c.if-needs-summary-2.false))
+
+pub returns-then-not-branch-clause-passed : goal.returns-then-not-branch-clause-passed
+returns-then-not-branch-clause-passed over c = parts_passed c.walk.invariant.0
+
+pub returns-then-not-is_one_field-clause-passed : goal.returns-then-not-is_one_field-clause-passed
+returns-then-not-is_one_field-clause-passed over c = parts_passed c.walk.invariant.0
+
+pub returns-then-at-part-clause-passed : goal.returns-then-at-part-clause-passed
+returns-then-at-part-clause-passed over c = parts_passed c.walk.invariant.0
+
+pub returns-then-needs-summary-clause-passed : goal.returns-then-needs-summary-clause-passed
+returns-then-needs-summary-clause-passed over c = parts_passed c.walk.invariant.0

@@ -1,11 +1,10 @@
-use Rattle.std.proofs.Common.{[], take, refl, sym, ap, subst, arith}
-use Rattle.mvt_fault.specs.Place.{IsLeast}
+use Rattle.std.proofs.Common.{[], take, refl, sym, subst, arith}
+use Rattle.mvt_fault.specs.declared.fault.Fault.{Fault}
 use Rattle.mvt_wire.specs.Calls.Scope.{span_between}
 use Rattle.mvt_wire.specs.declared.schema.Message.TheVariants.{Layer}
 use Rattle.mvt_wire.proofs.Encoding.Payloads.{LiesIn-field}
 use Rattle.mvt_tile.specs.Calls.FieldScan.{PassesNext}
-use Rattle.mvt_tile.specs.declared.wire.message.MessageCheck.{MessageCheck}
-use Rattle.mvt_tile.specs.Calls.Embedded.{IsLayerFault}
+use Rattle.mvt_tile.specs.Calls.Passed.{IsFirstAfter}
 use Rattle.mvt_tile.proofs.WireFaults.LayerWalk.{LayerWalk-unchanged, LayerWalk-more, LayerWalk-fault, LayerWalk-own, LayerWalk-value, LayerWalk-feature, LayerWalk-none}
 use Rattle.mvt_tile.proofs.WireFaults.Walking.{PassesNext-as}
 use Rattle.mvt_tile.proofs.wire.layer.layer_fault.Goals as goal
@@ -18,9 +17,9 @@ walk-init c = record {
   scanning = record { passed = refl; passes = c.new-own.ensures Layer };
   values = c.new-values.ensures.nothing c.args.part.bytes.now;
   features = c.new-features.ensures.nothing c.args.part.bytes.now;
-  value_message = ap (λ (check : MessageCheck). check.0) c.new-values.ensures.check;
+  value_check = c.new-values.ensures.check;
   value_number = c.new-values.ensures.number;
-  feature_message = ap (λ (check : MessageCheck). check.0) c.new-features.ensures.check;
+  feature_check = c.new-features.ensures.check;
   feature_number = c.new-features.ensures.number;
   few_values = omega arith;
   few_features = omega arith;
@@ -48,36 +47,36 @@ walk-preserved c =
       | in-Some w ↦ PassesNext-as w.in-Some.ensures.passed refl w.own-is w.next-is
       | in-None-2+in-Ok w ↦ PassesNext-as w.in-Ok.ensures.passed w.in-None-2.ensures.unchanged w.own-is w.next-is
     ] in
-    LayerWalk-more c.args.part.bytes.now c.args.part.from c.args.part.to c.walk.at c.walk.own c.walk.values c.walk.features c.args.part.within c.walk.invariant
+    LayerWalk-more c.args.part.bytes.now c.args.passed c.args.part.from c.args.part.to c.walk.at c.walk.own c.walk.values c.walk.features c.args.part.within c.walk.invariant
     c.match-pass_usual.next c.match-pass_usual.own c.pass.new.self c.pass-in-walk.new.self passed
-    (record { message = ap (λ (check : MessageCheck). check.0) c.pass.ensures.check; number = c.pass.ensures.number; count = c.pass.ensures.count; noted = c.pass.ensures.noted })
-    (record { message = ap (λ (check : MessageCheck). check.0) c.pass-in-walk.ensures.check; number = c.pass-in-walk.ensures.number; count = c.pass-in-walk.ensures.count; noted = c.pass-in-walk.ensures.noted })
+    (record { check = c.pass.ensures.check; number = c.pass.ensures.number; count = c.pass.ensures.count; noted = c.pass.ensures.noted })
+    (record { check = c.pass-in-walk.ensures.check; number = c.pass-in-walk.ensures.number; count = c.pass-in-walk.ensures.count; noted = c.pass-in-walk.ensures.noted })
 
 pub returns-in-Err : goal.returns-in-Err
 returns-in-Err c =
-    subst (IsLeast (IsLayerFault c.args.part.bytes.now (span_between c.args.part.from c.args.part.to) c.args.layer)) (sym c.wire_fault_in.ensures)
-    (LayerWalk-fault c.args.part.bytes.now c.args.part.from c.args.part.to c.walk.at c.pass_usual.new.self c.walk.values c.walk.features c.args.part.within
+    subst (λ (fault : Fault). IsFirstAfter c.args.passed c.args.part.bytes.now fault c.args.layer (span_between c.args.part.from c.args.part.to)) (sym c.wire_fault_in.ensures)
+    (LayerWalk-fault c.args.part.bytes.now c.args.passed c.args.part.from c.args.part.to c.walk.at c.pass_usual.new.self c.walk.values c.walk.features c.args.part.within
     (LayerWalk-unchanged c.walk.invariant c.in-None-2.ensures.unchanged) c.args.layer c.in-Err.cause c.in-Err.ensures.fault)
 
 pub returns-in-Some-end_fault : goal.returns-in-Some-end_fault
 returns-in-Some-end_fault c =
-    subst (IsLeast (IsLayerFault c.args.part.bytes.now (span_between c.args.part.from c.args.part.to) c.args.layer)) (sym c.wire_fault_in-in-Some-end_fault.ensures)
-    (LayerWalk-own c.args.part.bytes.now c.args.part.from c.args.part.to c.walk.at c.pass_usual.new.self c.walk.values c.walk.features c.args.part.within
+    subst (λ (fault : Fault). IsFirstAfter c.args.passed c.args.part.bytes.now fault c.args.layer (span_between c.args.part.from c.args.part.to)) (sym c.wire_fault_in-in-Some-end_fault.ensures)
+    (LayerWalk-own c.args.part.bytes.now c.args.passed c.args.part.from c.args.part.to c.walk.at c.pass_usual.new.self c.walk.values c.walk.features c.args.part.within
     (LayerWalk-unchanged c.walk.invariant c.in-None.ensures.unchanged) c.if-at-part.true c.args.layer c.in-Some-end_fault.cause c.in-Some-end_fault.ensures)
 
 pub returns-in-Some-first : goal.returns-in-Some-first
 returns-in-Some-first c =
-    subst (IsLeast (IsLayerFault c.args.part.bytes.now (span_between c.args.part.from c.args.part.to) c.args.layer)) (sym c.wire_fault_in-in-Some-first.ensures)
-    (LayerWalk-value c.args.part.bytes.now c.args.part.from c.args.part.to c.walk.at c.pass_usual.new.self c.walk.values c.walk.features c.args.part.within
+    subst (λ (fault : Fault). IsFirstAfter c.args.passed c.args.part.bytes.now fault c.args.layer (span_between c.args.part.from c.args.part.to)) (sym c.wire_fault_in-in-Some-first.ensures)
+    (LayerWalk-value c.args.part.bytes.now c.args.passed c.args.part.from c.args.part.to c.walk.at c.pass_usual.new.self c.walk.values c.walk.features c.args.part.within
     (LayerWalk-unchanged c.walk.invariant c.in-None.ensures.unchanged) c.if-at-part.true c.in_default.ensures c.args.layer c.in-Some-first.value c.in-Some-first.cause c.in-Some-first.is)
 
 pub returns-in-Some-first-2 : goal.returns-in-Some-first-2
 returns-in-Some-first-2 c =
-    subst (IsLeast (IsLayerFault c.args.part.bytes.now (span_between c.args.part.from c.args.part.to) c.args.layer)) (sym c.wire_fault_in-in-Some-first-2.ensures)
-    (LayerWalk-feature c.args.part.bytes.now c.args.part.from c.args.part.to c.walk.at c.pass_usual.new.self c.walk.values c.walk.features c.args.part.within
+    subst (λ (fault : Fault). IsFirstAfter c.args.passed c.args.part.bytes.now fault c.args.layer (span_between c.args.part.from c.args.part.to)) (sym c.wire_fault_in-in-Some-first-2.ensures)
+    (LayerWalk-feature c.args.part.bytes.now c.args.passed c.args.part.from c.args.part.to c.walk.at c.pass_usual.new.self c.walk.values c.walk.features c.args.part.within
     (LayerWalk-unchanged c.walk.invariant c.in-None.ensures.unchanged) c.if-at-part.true c.in_default.ensures c.args.layer c.in-Some-first-2.feature c.in-Some-first-2.cause c.in_default-first.is c.in-Some-first-2.is)
 
 pub returns : goal.returns
 returns c =
-    LayerWalk-none c.args.part.bytes.now c.args.part.from c.args.part.to c.walk.at c.pass_usual.new.self c.walk.values c.walk.features c.args.part.within
+    LayerWalk-none c.args.part.bytes.now c.args.passed c.args.part.from c.args.part.to c.walk.at c.pass_usual.new.self c.walk.values c.walk.features c.args.part.within
     (LayerWalk-unchanged c.walk.invariant c.in-None.ensures.unchanged) c.if-at-part.true c.in_default.ensures c.args.layer c.in_default-first.is c.in_default-first-2.is
