@@ -3,22 +3,11 @@
 //! that were given, and that polygons that broke no rule are still there.
 #![tactic(auto)]
 
-mod boundary;
-mod corners;
-mod faces;
-mod groups;
 mod kept;
 mod loose;
 mod mending;
 mod near;
-mod noding;
-mod order;
-mod outlines;
-mod roles;
-mod segment;
-mod witnesses;
-mod work;
 
 pub use loose::loose_rings;
 pub use mending::{MendedRings, mend_rings};
-pub use work::Work;
+pub use mvt_overlay::Work;

@@ -9,8 +9,8 @@ mod close;
 pub(crate) mod edges;
 
 use crate::near::edges::OldEdges;
-use crate::work::Work;
 use close::is_close_to_edge;
+use mvt_overlay::Work;
 use mvt_plane::{Edge, Point};
 
 /// Whether each vertex of the new rings is near the old ones: within two units, along each axis, of

@@ -1,10 +1,6 @@
 //! Segments that meet in ends only, and what is filled between them.
 
-use crate::faces::{Faces, faces_of};
-use crate::noding::node;
-use crate::order::ends_of;
-use crate::segment::{HalfEdge, Segment, Tally, Winding};
-use crate::work::Work;
+use mvt_overlay::{Faces, HalfEdge, Segment, Tally, Winding, Work, ends_of, faces_of, node};
 use mvt_plane::sweep_key;
 use std::alloc::{AllocError, Global};
 

@@ -4,11 +4,8 @@ use crate::mending::arranged::{Arranged, Fill};
 use crate::mending::drafts::Drafts;
 use crate::mending::old::Old;
 use crate::mending::segments::segments_of_polygon;
-use crate::near::edges::short;
-use crate::roles::homes_of_strays;
-use crate::segment::{HalfEdge, Tally};
-use crate::work::Work;
 use mvt_fault::Profile;
+use mvt_overlay::{HalfEdge, Tally, Work, homes_of_strays, short};
 use mvt_plane::Point;
 use std::alloc::{AllocError, Global};
 

@@ -1,6 +1,5 @@
 //! Rings that may stand for those of a feature.
 
-use crate::corners::add_polygons_apart;
 use crate::kept::{Judged, are_feature_right};
 use crate::mending::MendedRings;
 use crate::mending::arranged::{Arranged, Fill};
@@ -9,11 +8,8 @@ use crate::mending::filled::fill_all;
 use crate::mending::old::Old;
 use crate::mending::segments::{segments_of_drafts, segments_of_right};
 use crate::mending::starts::restore_starts;
-use crate::outlines::Outlines;
-use crate::roles::polygons_meant;
-use crate::segment::{HalfEdge, Segment, Tally};
-use crate::work::Work;
 use mvt_fault::Profile;
+use mvt_overlay::{HalfEdge, Outlines, Segment, Tally, Work, add_polygons_apart, polygons_meant};
 use mvt_plane::Point;
 use std::alloc::{AllocError, Global};
 

@@ -3,8 +3,8 @@
 use crate::mending::drafts::Drafts;
 use crate::mending::old::Old;
 use crate::near::edge_at;
-use crate::near::edges::{NO_EDGE, count_of, short};
-use crate::segment::{HalfEdge, Segment, Winding};
+use crate::near::edges::{NO_EDGE, count_of};
+use mvt_overlay::{HalfEdge, Segment, Winding, short};
 use mvt_plane::{Edge, Point, sweep_key, twice_area};
 use std::alloc::{AllocError, Global};
 

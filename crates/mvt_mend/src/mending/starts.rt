@@ -3,7 +3,7 @@ ghost use Rattle.std.specs.Prelude.{◌≡◌, IsTrue, length};
 
 use crate::mending::old::Old;
 use crate::near::edges::NO_EDGE;
-use crate::outlines::Outlines;
+use mvt_overlay::Outlines;
 use mvt_plane::Point;
 
 /// Has each ring, from this one on, that was given begin with the vertex with which it began.

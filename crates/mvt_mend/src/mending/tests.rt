@@ -2,8 +2,8 @@
 
 use super::{MendedRings, mend_rings};
 use crate::kept::{are_feature_right, are_right};
-use crate::work::Work;
 use mvt_fault::Profile;
+use mvt_overlay::Work;
 use mvt_plane::{Point, twice_area};
 use mvt_polygon::polygon_end;
 use std::alloc::{AllocError, Global};

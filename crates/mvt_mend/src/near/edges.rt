@@ -1,6 +1,7 @@
 //! The edges of the rings that were given, by number and along rings.
 
 use crate::near::edge_at;
+use mvt_overlay::short;
 use mvt_plane::{Point, sweep_key};
 use std::alloc::{AllocError, Global};
 
@@ -181,10 +182,4 @@ pub(crate) fn count_of(rings: &[Vec<Point>]) -> usize {
         count = count.saturating_add(ring.len());
     }
     count
-}
-
-/// A number of rings, vertices or edges. Where it has no 32 bits the greatest, which is that of
-/// none.
-pub(crate) fn short(number: usize) -> u32 {
-    u32::try_from(number).unwrap_or(u32::MAX)
 }
