@@ -11,4 +11,5 @@ pub mod NumberWalks
 pub mod NumbersLeft
 pub mod PackedNumbers
 pub mod ShortNumbers
+pub mod SmallNumbers
 pub mod Sources

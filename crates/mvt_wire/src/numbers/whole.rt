@@ -71,6 +71,20 @@ impl NumberSource for WholeNumbers<'_> {
         self.end = end;
         Some(number)
     }
+
+    #[inline(always)]
+    fn next_small_pair(&mut self) -> Option<(u32, u32)> {
+        // (the next field is left to the reading of one number)
+        if self.end - self.at < 2 {
+            return None;
+        }
+        let (first, second) = (self.bytes[self.at], self.bytes[self.at + 1]);
+        if first >= 128 || second >= 128 {
+            return None;
+        }
+        self.at += 2;
+        Some((u32::from(first), u32::from(second)))
+    }
 }
 
 /// Where the varints begin that come next, and where they end: those left in a field, or else those
