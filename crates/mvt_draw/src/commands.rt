@@ -147,22 +147,22 @@ pub(crate) fn step<N: NumberSource + Drop>(
         → course_of numbers cursor.new ≡ record { here = to; left = rest }) }
 {
     // (so it is with most parameters)
-    match source.next_small_pair() {
-        Some((x, y)) => small_step(x, y, cursor, line),
+    match source.next_short_pair() {
+        Some((x, y)) => short_step(x, y, cursor, line),
         None => any_step(source, cursor, line),
     }
 }
 
-/// The same for two parameters below 128, which stand at the cursor. None of them is the greatest.
+/// The same for two parameters below 2^14, which stand at the cursor. None of them is the greatest.
 #[inline(always)]
-fn small_step(
+fn short_step(
     x: u32,
     y: u32,
     cursor: &mut Cursor,
     line: bool,
 ) -> Result<(), (CommandCode, usize)>
     requires few { cursor.old.at + 2 < 2 ^ 64 }
-    requires small { (x < 128) × (y < 128) }
+    requires small { (x < 2 ^ 14) × (y < 2 ^ 14) }
     ensures place { OnOk result (cursor.new.at ≡ cursor.old.at + 2) }
     ensures goes { OnOk result ((numbers : List ℕ) → IsPairThere numbers cursor.old.at x y
         → (geometry_type : GeometryType) (leg : Leg) → is_line leg ≡ line

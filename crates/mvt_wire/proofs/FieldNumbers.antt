@@ -4,6 +4,7 @@ pub mod NumberEnds
 pub mod NumberFaults
 pub mod NumberFields
 pub mod NumberLaws
+pub mod NumberPairs
 pub mod NumberPlaces
 pub mod NumberSpans
 pub mod NumberStops
@@ -11,5 +12,4 @@ pub mod NumberWalks
 pub mod NumbersLeft
 pub mod PackedNumbers
 pub mod ShortNumbers
-pub mod SmallNumbers
 pub mod Sources

@@ -1,4 +1,4 @@
-use Rattle.std.proofs.Common.{◌≡◌, ◌+◌, ℤ, true≢false, sym, ◌∙◌, subst, get_or, w32, SFits, rules, arith}
+use Rattle.std.proofs.Common.{◌+◌, ℤ, true≢false, sym, ◌∙◌, subst, get_or, w32, SFits, rules, arith}
 use Rattle.std.proofs.lemmas.Int.{ints, to_z-of_z}
 use Rattle.std.proofs.lemmas.Result.{err_from_is_err_and}
 use Rattle.mvt_plane.specs.Commands.Drawing.{start, step_x, step_y}
@@ -7,8 +7,8 @@ use Rattle.mvt_draw.specs.Calls.Cursor.{position_of}
 use Rattle.mvt_plane.proofs.Spelling.Readers.{leads_on, step_leads, no_step_there}
 use Rattle.mvt_draw.proofs.Steps.{same_position, there_move}
 use Rattle.mvt_draw.proofs.StepsAhead.{step_drawn}
-use Rattle.mvt_draw.proofs.commands.small_step.Goals as goal
-use Rattle.mvt_draw.proofs.commands.small_step.Goals.{else-line-via-then-line+then-x-eq0+else-y-eq0, else-line-via-then-line+else-x-eq0, else-line-via-else-line}
+use Rattle.mvt_draw.proofs.commands.short_step.Goals as goal
+use Rattle.mvt_draw.proofs.commands.short_step.Goals.{else-line-via-then-line+then-x-eq0+else-y-eq0, else-line-via-then-line+else-x-eq0, else-line-via-else-line}
 
 pub returns-in_err-to_x-clause-fault : goal.returns-in_err-to_x-clause-fault
 returns-in_err-to_x-clause-fault c =
