@@ -7,4 +7,5 @@ pub mod SpellingFaults
 pub mod SpellingFigures
 pub mod SpellingPaths
 pub mod SpellingSteps
+pub mod Steps
 pub mod StepsAhead

@@ -6,7 +6,7 @@ ghost use Rattle.mvt_plane.specs.Calls.Reading.{StandsAt, IsFaulty};
 ghost use Rattle.mvt_plane.specs.Commands.Reading.{AsksCommand, AsksCoordinate, is_line, path_type, with_left};
 ghost use Rattle.mvt_plane.specs.Position.{Position, IsCoordinate, IsPosition};
 ghost use Rattle.mvt_draw.specs.Calls.Cursor.{position_of, course_of};
-ghost use Rattle.mvt_draw.specs.Calls.Given.{IsNumberThere, IsGivenAt};
+ghost use Rattle.mvt_draw.specs.Calls.Given.{IsNumberThere, IsPairThere, IsGivenAt};
 ghost use Rattle.mvt_fault.specs.Code.{command_code};
 ghost use Rattle.mvt_plane.specs.Calls.Course.{AreStepsAhead};
 ghost use Rattle.mvt_plane.specs.Commands.Course.{IsPathAhead, IsStepAhead};
@@ -93,6 +93,20 @@ fn coordinate<N: NumberSource + Drop>(
     if number == u32::MAX {
         return Err((CommandCode::GreatestParameter, at));
     }
+    moved(number, at, from)
+}
+
+/// The coordinate where a parameter leads from another one.
+#[inline(always)]
+fn moved(number: u32, at: usize, from: i32) -> Result<i32, (CommandCode, usize)>
+    requires { number + 1 < 2 ^ 32 }
+    ensures inside { IfOk result IsCoordinate }
+    ensures moves { IfOk result (λ to. IsMove from number × (to ≡ from +ℤ unzigzag number)) }
+    ensures fault { IfErr result (λ stop. (numbers : List ℕ) → IsNumberThere numbers at (Some number)
+        → (geometry_type : GeometryType) (state : State) → AsksCoordinate state from
+        → StandsAt geometry_type numbers at state
+        → IsFaulty geometry_type numbers (command_code stop.0) stop.1) }
+{
     let to = i64::from(from) + i64::from(unzigzag32(number));
     let greatest = i64::from(GREATEST_COORDINATE);
     if to < -greatest || to > greatest {
@@ -104,6 +118,82 @@ fn coordinate<N: NumberSource + Drop>(
 /// Moves the cursor over its two parameters, to where they lead; of a LineTo they may not stay.
 #[inline(always)]
 pub(crate) fn step<N: NumberSource + Drop>(
+    source: &mut N,
+    cursor: &mut Cursor,
+    line: bool,
+) -> Result<(), (CommandCode, usize)>
+    requires few { cursor.old.at + N.most source.old < 2 ^ 64 }
+    ensures place { OnOk result (cursor.new.at ≡ cursor.old.at + 2) }
+    ensures fewer { OnOk result (N.most source.new + 2 ≤ N.most source.old) }
+    ensures left { OnOk result ((numbers : List ℕ)
+        → N.Leaves source.old (drop cursor.old.at numbers)
+        → N.Leaves source.new (drop cursor.new.at numbers)) }
+    ensures goes { OnOk result ((numbers : List ℕ)
+        → N.Leaves source.old (drop cursor.old.at numbers)
+        → (geometry_type : GeometryType) (leg : Leg) → is_line leg ≡ line
+        → StandsAt geometry_type numbers cursor.old.at (step_x leg (position_of cursor.old))
+        → StandsAt geometry_type numbers cursor.new.at
+        (following geometry_type leg (position_of cursor.new))) }
+    ensures fault { IfErr result (λ stop. (numbers : List ℕ)
+        → N.Leaves source.old (drop cursor.old.at numbers)
+        → (geometry_type : GeometryType) (leg : Leg) → is_line leg ≡ line
+        → StandsAt geometry_type numbers cursor.old.at (step_x leg (position_of cursor.old))
+        → IsFaulty geometry_type numbers (command_code stop.0) stop.1) }
+    ensures inside { OnOk result (IsPosition (position_of cursor.new)) }
+    ensures drawn { OnOk result ((numbers : List ℕ)
+        → N.Leaves source.old (drop cursor.old.at numbers)
+        → (to : Position) (rest : List ℕ)
+        → IsStepAhead (course_of numbers cursor.old) to rest
+        → course_of numbers cursor.new ≡ record { here = to; left = rest }) }
+{
+    // (so it is with most parameters)
+    match source.next_short_pair() {
+        Some((x, y)) => short_step(x, y, cursor, line),
+        None => any_step(source, cursor, line),
+    }
+}
+
+/// The same for two parameters below 2^14, which stand at the cursor. None of them is the greatest.
+#[inline(always)]
+fn short_step(
+    x: u32,
+    y: u32,
+    cursor: &mut Cursor,
+    line: bool,
+) -> Result<(), (CommandCode, usize)>
+    requires few { cursor.old.at + 2 < 2 ^ 64 }
+    requires small { (x < 2 ^ 14) × (y < 2 ^ 14) }
+    ensures place { OnOk result (cursor.new.at ≡ cursor.old.at + 2) }
+    ensures goes { OnOk result ((numbers : List ℕ) → IsPairThere numbers cursor.old.at x y
+        → (geometry_type : GeometryType) (leg : Leg) → is_line leg ≡ line
+        → StandsAt geometry_type numbers cursor.old.at (step_x leg (position_of cursor.old))
+        → StandsAt geometry_type numbers cursor.new.at
+        (following geometry_type leg (position_of cursor.new))) }
+    ensures fault { IfErr result (λ stop. (numbers : List ℕ)
+        → IsPairThere numbers cursor.old.at x y
+        → (geometry_type : GeometryType) (leg : Leg) → is_line leg ≡ line
+        → StandsAt geometry_type numbers cursor.old.at (step_x leg (position_of cursor.old))
+        → IsFaulty geometry_type numbers (command_code stop.0) stop.1) }
+    ensures inside { OnOk result (IsPosition (position_of cursor.new)) }
+    ensures drawn { OnOk result ((numbers : List ℕ) → IsPairThere numbers cursor.old.at x y
+        → (to : Position) (rest : List ℕ)
+        → IsStepAhead (course_of numbers cursor.old) to rest
+        → course_of numbers cursor.new ≡ record { here = to; left = rest }) }
+{
+    let to_x = moved(x, cursor.at, cursor.x)?;
+    let to_y = moved(y, cursor.at + 1, cursor.y)?;
+    if line && x == 0 && y == 0 {
+        return Err((CommandCode::NoStep, cursor.at + 1));
+    }
+    cursor.at += 2;
+    cursor.x = to_x;
+    cursor.y = to_y;
+    Ok(())
+}
+
+/// The same for any two parameters, one after the other.
+#[inline(always)]
+fn any_step<N: NumberSource + Drop>(
     source: &mut N,
     cursor: &mut Cursor,
     line: bool,

@@ -4,6 +4,7 @@ pub mod NumberEnds
 pub mod NumberFaults
 pub mod NumberFields
 pub mod NumberLaws
+pub mod NumberPairs
 pub mod NumberPlaces
 pub mod NumberSpans
 pub mod NumberStops

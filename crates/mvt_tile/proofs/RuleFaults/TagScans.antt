@@ -10,19 +10,18 @@ use Rattle.mvt_fault.specs.declared.tag.TagCode.TheVariants.{OddLength}
 use Rattle.mvt_wire.proofs.FieldNumbers.Sources.{at_end, number_at}
 use Rattle.mvt_tile.proofs.RuleFaults.TagFaults.{AreMetBy-all, IsMetBefore-pair, IsFirstTagFault-odd, no_tag_fault}
 
--- a pair that a source gives, one number after the other: it stands at the place, and the rest is left
+-- a pair that a source gives: it stands at the place, and the rest is left
 pub record IsGivenAt (Leaves : List ℕ → Type 0) (given : List ℕ) (at key value : ℕ) : Type 0 where
   pub first : slice_get given at ≡ Some key
   pub second : slice_get given (at + 1) ≡ Some value
   pub left : Leaves (drop (at + 2) given)
 
-pub given_at : (Between Leaves : List ℕ → Type 0) (given : List ℕ) (at key value : ℕ) (taken : (rest : List ℕ) × (drop at given ≡ key ∷ rest) × Between rest)
-    → (rest : List ℕ) × (taken.0 ≡ value ∷ rest) × Leaves rest → IsGivenAt Leaves given at key value
-given_at Between Leaves given at key value taken further =
-    let one = number_at given at key taken.0 taken.1 in
-    let two = number_at given (at + 1) value further.0 (sym one.following ∙ further.1) in
+pub given_at : (Leaves : List ℕ → Type 0) (given : List ℕ) (at key value : ℕ) → (rest : List ℕ) × (drop at given ≡ key ∷ value ∷ rest) × Leaves rest → IsGivenAt Leaves given at key value
+given_at Leaves given at key value taken =
+    let one = number_at given at key (value ∷ taken.0) taken.1 in
+    let two = number_at given (at + 1) value taken.0 (sym one.following) in
     let place : at + 1 + 1 ≡ at + 2 = omega arith in
-    record { first = one.here; second = two.here; left = subst Leaves (two.following ∙ ap (λ (at : ℕ). drop at given) place) further.2 }
+    record { first = one.here; second = two.here; left = subst Leaves (two.following ∙ ap (λ (at : ℕ). drop at given) place) taken.2 }
 
 module _ {set : KeyMarks} {keys values : ℕ} {tags : List ℕ} {at : ℕ} {needs : TagNeeds} {found : Option (TagCode × ℕ)} (scanned : IsScanned set keys values tags at needs found) where
   -- one more pair
@@ -48,12 +47,11 @@ module _ {set : KeyMarks} {keys values : ℕ} {tags : List ℕ} {at : ℕ} {need
       ends (Some fault) first = first
 
   -- and in front of a number after which nothing is left
-  pub odd_scanned : (Between : List ℕ → Type 0) (key : ℕ) (taken : (rest : List ℕ) × (drop at tags ≡ key ∷ rest) × Between rest) → taken.0 ≡ [] → FindsFirstTagFault keys values tags (Some (OddLength, at + 1)) × AreMetBy needs tags
-  odd_scanned Between key taken none =
+  pub odd_scanned : (key : ℕ) → drop at tags ≡ key ∷ [] → FindsFirstTagFault keys values tags (Some (OddLength, at + 1)) × AreMetBy needs tags
+  odd_scanned key left =
       let even : at ≡ 2 * scanned.met.pair = scanned.met.even in
-      let one = number_at tags at key taken.0 taken.1 in
-      let within = one.within in
-      let all : length tags ≡ at + 1 = omega (arith, ap length none) in (
+      let one = number_at tags at key [] left in
+      let all : length tags ≡ at + 1 = omega (arith, one.within) in (
         subst (λ (place : ℕ). IsFirstTagFault keys values tags OddLength place) all (IsFirstTagFault-odd keys values tags scanned.met.pair (omega arith)),
         AreMetBy-all needs tags at (omega arith) scanned.met,
       )

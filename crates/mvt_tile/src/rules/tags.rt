@@ -1,5 +1,5 @@
 //! The tags of a feature (Mapbox Vector Tile Specification 2.1, section 4.4).
-ghost use Rattle.std.specs.Prelude.{◌≡◌, ◌+◌, ◌<◌, ◌≤◌, ◌^◌, ℕ, List, length, drop, IfOk, IfNone, IfSome, Some, None, slice_get};
+ghost use Rattle.std.specs.Prelude.{◌≡◌, ◌+◌, ◌<◌, ◌≤◌, ◌^◌, ◌∷◌, [], ℕ, List, length, drop, IfOk, IfNone, IfSome, Some, None, slice_get};
 ghost use Rattle.mvt_fault.specs.Place.{IsLeast};
 ghost use Rattle.mvt_rules.specs.Parts.TrueFaults.{IsFaultOfTags};
 ghost use Rattle.mvt_fault.specs.declared.fault.Fault.{Fault};
@@ -114,8 +114,8 @@ pub(crate) fn scan_tags<N: NumberSource + Drop>(
     marks.clear();
     let mut needs = TagNeeds::none();
     let mut at = 0;
-    'pairs: while let Some(key) = tags.next_number() {
-        let Some(value) = tags.next_number() else {
+    'pairs: while let Some((key, value)) = next_tags(&mut tags) {
+        let Some(value) = value else {
             *found = Some((TagCode::OddLength, at + 1));
             return Ok(needs);
         };
@@ -146,8 +146,8 @@ fn scan_rest<N: NumberSource + Drop>(
 {
     let mut needs = before;
     let mut at = from;
-    'pairs: while let Some(key) = tags.next_number() {
-        let Some(value) = tags.next_number() else {
+    'pairs: while let Some((key, value)) = next_tags(&mut tags) {
+        let Some(value) = value else {
             *found = Some((TagCode::OddLength, at + 1));
             return needs;
         };
@@ -156,6 +156,41 @@ fn scan_rest<N: NumberSource + Drop>(
     }
     *found = Some(fault);
     needs
+}
+
+/// The next pair of tags, or a number that is left over at the end, or None at the end.
+#[inline(always)]
+fn next_tags<N: NumberSource + Drop>(tags: &mut N) -> Option<(u32, Option<u32>)>
+    ensures end { IfNone result ((given : List ℕ) → N.Leaves tags.old given → given ≡ []) }
+    ensures odd { IfSome result (λ next. IfNone next.1 ((given : List ℕ) → N.Leaves tags.old given
+        → given ≡ next.0 ∷ [])) }
+    ensures pair { IfSome result (λ next. IfSome next.1 (λ value. (given : List ℕ)
+        → N.Leaves tags.old given
+        → (rest : List ℕ) × (given ≡ next.0 ∷ value ∷ rest) × N.Leaves tags.new rest)) }
+    ensures fewer { IfSome result (λ next. IfSome next.1 (λ _.
+        N.most tags.new + 2 ≤ N.most tags.old)) }
+{
+    match tags.next_short_pair() {
+        Some((key, value)) => Some((key, Some(value))),
+        None => any_tags(tags),
+    }
+}
+
+/// The same, one number after the other.
+#[inline(always)]
+fn any_tags<N: NumberSource + Drop>(tags: &mut N) -> Option<(u32, Option<u32>)>
+    ensures end { IfNone result ((given : List ℕ) → N.Leaves tags.old given → given ≡ []) }
+    ensures odd { IfSome result (λ next. IfNone next.1 ((given : List ℕ) → N.Leaves tags.old given
+        → given ≡ next.0 ∷ [])) }
+    ensures pair { IfSome result (λ next. IfSome next.1 (λ value. (given : List ℕ)
+        → N.Leaves tags.old given
+        → (rest : List ℕ) × (given ≡ next.0 ∷ value ∷ rest) × N.Leaves tags.new rest)) }
+    ensures fewer { IfSome result (λ next. IfSome next.1 (λ _.
+        N.most tags.new + 2 ≤ N.most tags.old)) }
+{
+    let key = tags.next_number()?;
+    let value = tags.next_number();
+    Some((key, value))
 }
 
 /// The first fault of the pair of tags at a place, where those before it have none, and its place.

@@ -1,5 +1,5 @@
 //! The numbers of a message that is known to be whole, decoded where they stand.
-ghost use Rattle.std.specs.Prelude.{◌≡◌, ◌≤◌, ◌<◌, ◌^◌, ℕ, true, List, [], length, take, None};
+ghost use Rattle.std.specs.Prelude.{◌≡◌, ◌+◌, ◌≤◌, ◌<◌, ◌^◌, ℕ, true, List, [], length, take, IfSome, None};
 ghost use Rattle.mvt_wire.specs.Field.{content_of, wire_type_of};
 ghost use Rattle.mvt_wire.specs.Calls.Numbers.{BeginVarints, HasNoNumberFault, LeavesVarints};
 ghost use Rattle.mvt_wire.specs.Numbers.{HasNoNumber, IsFaultless, NumbersLeft, walk_at};
@@ -71,6 +71,56 @@ impl NumberSource for WholeNumbers<'_> {
         self.end = end;
         Some(number)
     }
+
+    #[inline(always)]
+    fn next_short_pair(&mut self) -> Option<(u32, u32)> {
+        // (the next field is left to the reading of one number)
+        let (first, second, next) = short_pair(&self.bytes[..self.end], self.at)?;
+        self.at = next;
+        Some((first, second))
+    }
+}
+
+/// The two numbers at an offset, and the offset after them, where each has one byte, as most have in
+/// a tile, or one or two and four bytes are left.
+#[inline(always)]
+fn short_pair(bytes: &[u8], at: usize) -> Option<(u32, u32, usize)>
+    requires { at ≤ length bytes.now }
+    ensures numbers { IfSome result (λ read. (between : ℕ) × EncodesVarint bytes.now at between read.0
+        × EncodesVarint bytes.now between read.2 read.1) }
+    ensures small { IfSome result (λ read. (read.0 < 2 ^ 14) × (read.1 < 2 ^ 14)) }
+{
+    if bytes.len() - at < 2 {
+        return None;
+    }
+    let (first, second) = (bytes[at], bytes[at + 1]);
+    if first < 128 && second < 128 {
+        return Some((u32::from(first), u32::from(second), at + 2));
+    }
+    if bytes.len() - at < 4 {
+        return None;
+    }
+    let (first, between) = short_number(bytes, at)?;
+    let (second, next) = short_number(bytes, between)?;
+    Some((first, second, next))
+}
+
+/// The number at an offset, and the offset after it, where it has one byte or two.
+#[inline(always)]
+fn short_number(bytes: &[u8], at: usize) -> Option<(u32, usize)>
+    requires { at + 1 < length bytes.now }
+    ensures number { IfSome result (λ read. EncodesVarint bytes.now at read.1 read.0) }
+    ensures small { IfSome result (λ read. read.0 < 2 ^ 14) }
+    ensures near { IfSome result (λ read. read.1 ≤ at + 2) }
+{
+    let (first, second) = (bytes[at], bytes[at + 1]);
+    if first < 128 {
+        return Some((u32::from(first), at + 1));
+    }
+    if second < 128 {
+        return Some((u32::from(first % 128) + u32::from(second) * 128, at + 2));
+    }
+    None
 }
 
 /// Where the varints begin that come next, and where they end: those left in a field, or else those
