@@ -193,12 +193,7 @@ pub(crate) fn step<N: NumberSource + Drop>(
 
 /// The same for two parameters below 2^14, which stand at the cursor. None of them is the greatest.
 #[inline(always)]
-fn short_step(
-    x: u32,
-    y: u32,
-    cursor: &mut Cursor,
-    line: bool,
-) -> Result<(), (CommandCode, usize)>
+fn short_step(x: u32, y: u32, cursor: &mut Cursor, line: bool) -> Result<(), (CommandCode, usize)>
     requires few { cursor.old.at + 2 < 2 ^ 64 }
     requires small { (x < 2 ^ 14) × (y < 2 ^ 14) }
     ensures place { OnOk result (cursor.new.at ≡ cursor.old.at + 2) }
