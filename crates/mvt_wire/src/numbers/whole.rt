@@ -133,13 +133,14 @@ fn short_number(bytes: &[u8], at: usize) -> Option<(u32, usize)>
     ensures near { IfSome result (λ read. read.1 ≤ at + 2) }
 {
     let (first, second) = (bytes[at], bytes[at + 1]);
-    if first < 128 {
-        return Some((u32::from(first), at + 1));
+    let is_long = first >= 128;
+    if is_long && second >= 128 {
+        return None;
     }
-    if second < 128 {
-        return Some((u32::from(first % 128) + u32::from(second) * 128, at + 2));
-    }
-    None
+    // (no branch where either is as likely)
+    let high = if is_long { u32::from(second) } else { 0 };
+    let next = at + 1 + usize::from(is_long);
+    Some((u32::from(first % 128) + high * 128, next))
 }
 
 /// Where the varints begin that come next, and where they end: those left in a field, or else those
