@@ -17,6 +17,9 @@ use mvt_fault::CommandCode;
 use mvt_plane::{GREATEST_COORDINATE, GREATEST_COUNT, LINE_TO, MOVE_TO};
 use mvt_wire::{NumberSource, unzigzag32};
 
+/// A parameter below 2^14 leads from no coordinate up to this out of the range.
+const INNER: i32 = GREATEST_COORDINATE - (1 << 13);
+
 /// Where a reader of a geometry is.
 #[derive(Clone, Copy, Debug, PartialEq, Eq)]
 pub(crate) struct Cursor {
@@ -115,6 +118,38 @@ fn moved(number: u32, at: usize, from: i32) -> Result<i32, (CommandCode, usize)>
     Ok(to as i32)
 }
 
+/// The same for a parameter below 2^14. From most coordinates it leads to no bound.
+#[inline(always)]
+fn near(number: u32, at: usize, from: i32) -> Result<i32, (CommandCode, usize)>
+    requires { number < 2 ^ 14 }
+    ensures inside { IfOk result IsCoordinate }
+    ensures moves { IfOk result (λ to. IsMove from number × (to ≡ from +ℤ unzigzag number)) }
+    ensures fault { IfErr result (λ stop. (numbers : List ℕ) → IsNumberThere numbers at (Some number)
+        → (geometry_type : GeometryType) (state : State) → AsksCoordinate state from
+        → StandsAt geometry_type numbers at state
+        → IsFaulty geometry_type numbers (command_code stop.0) stop.1) }
+{
+    if from < -INNER || from > INNER {
+        return far(number, at, from);
+    }
+    Ok(from + unzigzag32(number))
+}
+
+/// The same where the coordinate is near a bound.
+#[cold]
+#[inline(never)]
+fn far(number: u32, at: usize, from: i32) -> Result<i32, (CommandCode, usize)>
+    requires { number < 2 ^ 14 }
+    ensures inside { IfOk result IsCoordinate }
+    ensures moves { IfOk result (λ to. IsMove from number × (to ≡ from +ℤ unzigzag number)) }
+    ensures fault { IfErr result (λ stop. (numbers : List ℕ) → IsNumberThere numbers at (Some number)
+        → (geometry_type : GeometryType) (state : State) → AsksCoordinate state from
+        → StandsAt geometry_type numbers at state
+        → IsFaulty geometry_type numbers (command_code stop.0) stop.1) }
+{
+    moved(number, at, from)
+}
+
 /// Moves the cursor over its two parameters, to where they lead; of a LineTo they may not stay.
 #[inline(always)]
 pub(crate) fn step<N: NumberSource + Drop>(
@@ -147,20 +182,18 @@ pub(crate) fn step<N: NumberSource + Drop>(
         → course_of numbers cursor.new ≡ record { here = to; left = rest }) }
 {
     // (so it is with most parameters)
-    match source.next_short_pair() {
+    match source.next_small_pair() {
         Some((x, y)) => short_step(x, y, cursor, line),
-        None => any_step(source, cursor, line),
+        None => match source.next_short_pair() {
+            Some((x, y)) => short_step(x, y, cursor, line),
+            None => any_step(source, cursor, line),
+        },
     }
 }
 
 /// The same for two parameters below 2^14, which stand at the cursor. None of them is the greatest.
 #[inline(always)]
-fn short_step(
-    x: u32,
-    y: u32,
-    cursor: &mut Cursor,
-    line: bool,
-) -> Result<(), (CommandCode, usize)>
+fn short_step(x: u32, y: u32, cursor: &mut Cursor, line: bool) -> Result<(), (CommandCode, usize)>
     requires few { cursor.old.at + 2 < 2 ^ 64 }
     requires small { (x < 2 ^ 14) × (y < 2 ^ 14) }
     ensures place { OnOk result (cursor.new.at ≡ cursor.old.at + 2) }
@@ -180,12 +213,13 @@ fn short_step(
         → IsStepAhead (course_of numbers cursor.old) to rest
         → course_of numbers cursor.new ≡ record { here = to; left = rest }) }
 {
-    let to_x = moved(x, cursor.at, cursor.x)?;
-    let to_y = moved(y, cursor.at + 1, cursor.y)?;
+    let at = cursor.at;
+    let to_x = near(x, at, cursor.x)?;
+    let to_y = near(y, at + 1, cursor.y)?;
     if line && x == 0 && y == 0 {
-        return Err((CommandCode::NoStep, cursor.at + 1));
+        return Err((CommandCode::NoStep, at + 1));
     }
-    cursor.at += 2;
+    cursor.at = at + 2;
     cursor.x = to_x;
     cursor.y = to_y;
     Ok(())

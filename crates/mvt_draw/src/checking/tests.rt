@@ -74,6 +74,52 @@ fn steps_of_nothing(rt: HostRuntime) {
     assert!(rt; draw(Kind::Polygon, &rings));
 }
 
+// Two parameters that are read at once: both small, one small and one large, one left over, a step
+// that stays, and steps from near the greatest coordinate to it and out of the range.
+#[test]
+fn pairs_of_parameters(rt: HostRuntime) {
+    assert!(rt; draw(Kind::Point, &[25, 127, 126, 128, 16_383, 127, 16_384]));
+    assert!(rt; fail(Kind::Point, &[17, 2, 2, 4], CommandCode::Unfinished, 4));
+    for still in [&[9, 0, 0, 18, 2, 2, 0, 0], &[9, 300, 2, 18, 0, 300, 0, 0]] {
+        assert!(rt; fail(Kind::LineString, still, CommandCode::NoStep, 7));
+    }
+    // two less than the greatest
+    let near = 2_147_483_644;
+    assert!(rt; draw(Kind::Point, &[17, near, near, 4, 4]));
+    assert!(rt;
+        fail(
+            Kind::Point,
+            &[17, near, 2, 6, 6],
+            CommandCode::OutOfBounds,
+            3
+        )
+    );
+    assert!(rt;
+        fail(
+            Kind::Point,
+            &[17, 2, near, 6, 6],
+            CommandCode::OutOfBounds,
+            4
+        )
+    );
+    assert!(rt;
+        fail(
+            Kind::Point,
+            &[17, near, near, 600, 0],
+            CommandCode::OutOfBounds,
+            3
+        )
+    );
+    assert!(rt;
+        fail(
+            Kind::Point,
+            &[17, near + 1, near, 0, 300],
+            CommandCode::OutOfBounds,
+            4
+        )
+    );
+}
+
 // The cursor stays at a ring's last position when the ring is closed, here at the greatest x: from
 // the ring's start, the next step would be in range.
 #[test]

@@ -170,9 +170,12 @@ fn next_tags<N: NumberSource + Drop>(tags: &mut N) -> Option<(u32, Option<u32>)>
     ensures fewer { IfSome result (λ next. IfSome next.1 (λ _.
         N.most tags.new + 2 ≤ N.most tags.old)) }
 {
-    match tags.next_short_pair() {
+    match tags.next_small_pair() {
         Some((key, value)) => Some((key, Some(value))),
-        None => any_tags(tags),
+        None => match tags.next_short_pair() {
+            Some((key, value)) => Some((key, Some(value))),
+            None => any_tags(tags),
+        },
     }
 }
 

@@ -15,8 +15,18 @@ pub trait NumberSource {
             → (rest : List ℕ) × (numbers ≡ number ∷ rest) × Leaves self.new rest) }
         ensures fewer { IfSome result (λ _. most self.new < most self.old) };
 
-    /// The next two numbers where both are below 2^14 and at hand, which costs less than to ask for
+    /// The next two numbers where both are below 128 and at hand, which costs less than to ask for
     /// one after the other. Else None, and those that were left still are.
+    fn next_small_pair(&mut self) -> Option<(u32, u32)>
+        ensures same { IfNone result ((numbers : List ℕ) → Leaves self.old numbers
+            → Leaves self.new numbers) }
+        ensures no_more { IfNone result (most self.new ≤ most self.old) }
+        ensures pair { IfSome result (λ pair. (numbers : List ℕ) → Leaves self.old numbers
+            → (rest : List ℕ) × (numbers ≡ pair.0 ∷ pair.1 ∷ rest) × Leaves self.new rest) }
+        ensures small { IfSome result (λ pair. (pair.0 < 128) × (pair.1 < 128)) }
+        ensures fewer { IfSome result (λ _. most self.new + 2 ≤ most self.old) };
+
+    /// The same where both are below 2^14. It may be None though both are below 128.
     fn next_short_pair(&mut self) -> Option<(u32, u32)>
         ensures same { IfNone result ((numbers : List ℕ) → Leaves self.old numbers
             → Leaves self.new numbers) }
@@ -56,6 +66,19 @@ impl NumberSource for ListedNumbers<'_> {
         let (&first, rest) = self.rest.split_first()?;
         self.rest = rest;
         Some(first)
+    }
+
+    #[inline(always)]
+    fn next_small_pair(&mut self) -> Option<(u32, u32)> {
+        if self.rest.len() < 2 {
+            return None;
+        }
+        let (first, second) = (self.rest[0], self.rest[1]);
+        if first >= 128 || second >= 128 {
+            return None;
+        }
+        self.rest = &self.rest[2..];
+        Some((first, second))
     }
 
     #[inline(always)]

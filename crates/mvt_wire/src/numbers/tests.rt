@@ -2,7 +2,7 @@ ghost use Rattle.std.specs.Prelude.{◌≡◌, ℕ, List, Option, slice_get};
 ghost use Rattle.mvt_wire.specs.Numbers.{NumbersEnd};
 ghost use Rattle.mvt_wire.specs.declared.cause.WireCause.{WireCause};
 
-use crate::{Numbers, WireCause, WireCode};
+use crate::{ListedNumbers, NumberSource, Numbers, WireCause, WireCode};
 
 /// The number at an index, of those that the fields of a field number state. It stops there: what
 /// the cursor says of its steps suffices to know which number that is.
@@ -134,4 +134,21 @@ fn numbers_before_a_fault(rt: HostRuntime) {
 fn stop(bytes: &[u8], wanted: &[u32], fault: WireCause) -> bool {
     let mut numbers = Numbers::new(bytes, 0, bytes.len(), 4);
     give(&mut numbers, wanted) && give_fault(&mut numbers, fault) && are_over(&mut numbers)
+}
+
+// Pairs are given up to their bounds; what is in no pair stays, and comes one after the other.
+#[test]
+fn pairs_of_a_list(rt: HostRuntime) {
+    let mut numbers = ListedNumbers::new(&[0, 127, 128, 16_383, 5, 16_384, 7]);
+    assert!(rt; numbers.next_small_pair() == Some((0, 127)));
+    assert!(rt; numbers.next_small_pair() == None);
+    assert!(rt; numbers.next_short_pair() == Some((128, 16_383)));
+    assert!(rt; numbers.next_short_pair() == None);
+    assert!(rt; numbers.next_number() == Some(5));
+    assert!(rt; numbers.next_number() == Some(16_384));
+    assert!(rt; numbers.next_small_pair() == None);
+    assert!(rt; numbers.next_short_pair() == None);
+    assert!(rt; numbers.next_number() == Some(7));
+    assert!(rt; numbers.next_small_pair() == None);
+    assert!(rt; numbers.next_number() == None);
 }

@@ -73,8 +73,15 @@ impl NumberSource for WholeNumbers<'_> {
     }
 
     #[inline(always)]
-    fn next_short_pair(&mut self) -> Option<(u32, u32)> {
+    fn next_small_pair(&mut self) -> Option<(u32, u32)> {
         // (the next field is left to the reading of one number)
+        let (first, second, next) = small_pair(&self.bytes[..self.end], self.at)?;
+        self.at = next;
+        Some((first, second))
+    }
+
+    #[inline(always)]
+    fn next_short_pair(&mut self) -> Option<(u32, u32)> {
         let (first, second, next) = short_pair(&self.bytes[..self.end], self.at)?;
         self.at = next;
         Some((first, second))
@@ -82,7 +89,26 @@ impl NumberSource for WholeNumbers<'_> {
 }
 
 /// The two numbers at an offset, and the offset after them, where each has one byte, as most have in
-/// a tile, or one or two and four bytes are left.
+/// a tile.
+#[inline(always)]
+fn small_pair(bytes: &[u8], at: usize) -> Option<(u32, u32, usize)>
+    requires { at ≤ length bytes.now }
+    ensures numbers { IfSome result (λ read. (between : ℕ) × EncodesVarint bytes.now at between read.0
+        × EncodesVarint bytes.now between read.2 read.1) }
+    ensures small { IfSome result (λ read. (read.0 < 128) × (read.1 < 128)) }
+{
+    let next = at + 2;
+    if next > bytes.len() {
+        return None;
+    }
+    let (first, second) = (bytes[at], bytes[at + 1]);
+    if first >= 128 || second >= 128 {
+        return None;
+    }
+    Some((u32::from(first), u32::from(second), next))
+}
+
+/// The same where each has one byte or two, and four bytes are left.
 #[inline(always)]
 fn short_pair(bytes: &[u8], at: usize) -> Option<(u32, u32, usize)>
     requires { at ≤ length bytes.now }
@@ -90,14 +116,7 @@ fn short_pair(bytes: &[u8], at: usize) -> Option<(u32, u32, usize)>
         × EncodesVarint bytes.now between read.2 read.1) }
     ensures small { IfSome result (λ read. (read.0 < 2 ^ 14) × (read.1 < 2 ^ 14)) }
 {
-    if bytes.len() - at < 2 {
-        return None;
-    }
-    let (first, second) = (bytes[at], bytes[at + 1]);
-    if first < 128 && second < 128 {
-        return Some((u32::from(first), u32::from(second), at + 2));
-    }
-    if bytes.len() - at < 4 {
+    if at + 4 > bytes.len() {
         return None;
     }
     let (first, between) = short_number(bytes, at)?;
@@ -114,13 +133,14 @@ fn short_number(bytes: &[u8], at: usize) -> Option<(u32, usize)>
     ensures near { IfSome result (λ read. read.1 ≤ at + 2) }
 {
     let (first, second) = (bytes[at], bytes[at + 1]);
-    if first < 128 {
-        return Some((u32::from(first), at + 1));
+    let is_long = first >= 128;
+    if is_long && second >= 128 {
+        return None;
     }
-    if second < 128 {
-        return Some((u32::from(first % 128) + u32::from(second) * 128, at + 2));
-    }
-    None
+    // (no branch where either is as likely)
+    let high = if is_long { u32::from(second) } else { 0 };
+    let next = at + 1 + usize::from(is_long);
+    Some((u32::from(first % 128) + high * 128, next))
 }
 
 /// Where the varints begin that come next, and where they end: those left in a field, or else those

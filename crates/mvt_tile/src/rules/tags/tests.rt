@@ -50,6 +50,16 @@ fn lists_of_tags(rt: HostRuntime) {
         (&[0, 0, 1, 0, 1, 0], 1, 2, TagCode::NoKey, 2),
         // a value out of range before a key that comes again
         (&[0, 2, 0, 0], 1, 2, TagCode::NoValue, 1),
+        // the same after pairs of greater indices, and before one that is greater yet
+        (
+            &[0, 500, 1, 20_000, 2, 0, 3, 900],
+            5,
+            20_000,
+            TagCode::NoValue,
+            3,
+        ),
+        // an odd length after a pair of greater indices
+        (&[200, 0, 1], 300, 1, TagCode::OddLength, 3),
         // a key that comes again far away
         (&[999, 0, 0, 0, 5, 0, 999, 0], 1000, 1, TagCode::Repeated, 6),
     ] {
