@@ -11,6 +11,7 @@ use Rattle.mvt_wire.specs.declared.schema.Message.{Message}
 use Rattle.mvt_wire.specs.declared.schema.Message.TheVariants as messages
 use Rattle.mvt_wire.proofs.Encoding.Messages.{one_list}
 use Rattle.mvt_wire.proofs.Encoding.Payloads.{picked-push, picked-other}
+use Rattle.mvt_wire.proofs.FieldNumbers.NumberStops.{fields_forward}
 use Rattle.mvt_wire.proofs.Parts.EmbeddedSpans.{AreClean-push}
 use Rattle.mvt_rules.specs.Parts.Fields.{FitsRule}
 use Rattle.mvt_rules.specs.Tile.{FeatureRecord, LayerRecord, IsLayer}
@@ -19,7 +20,8 @@ use Rattle.mvt_tile.specs.RuleFaults.{Keeps}
 use Rattle.mvt_tile.specs.Calls.Embedded.{HasNone, IsFaultlessLayer}
 use Rattle.mvt_tile.specs.Calls.FieldScan.{HasScanned, PassesNext}
 use Rattle.mvt_tile.specs.Calls.Least.{FindsLeastCause}
-use Rattle.mvt_tile.specs.Calls.OneWalk.{PassesFeature, PassesLayer, tells_none}
+use Rattle.mvt_tile.specs.Calls.OneWalk.{PassesFeature, PassesLayer}
+use Rattle.mvt_tile.specs.Sound.{AreSoundBefore, tells_none}
 use Rattle.mvt_tile.specs.Calls.Passed.{ArePassed, ArePartsPassed}
 use Rattle.mvt_tile.specs.Calls.Reading.{GivesSummary}
 use Rattle.mvt_tile.specs.Calls.RuleFaults.{AreAfterTags, IsLike, IsSummary}
@@ -87,6 +89,19 @@ module _ (IsKept Other : Keeps) (still : (it : FeatureRecord) → IsKept it → 
   still_good spans good ordinal span here it is layer_record like =
       let sound = good ordinal span here it is layer_record (fewer before needs more_keys more_values layer_record like) in
       record { faultless = sound.faultless; kept = still it sound.kept }
+
+-- in front of the place the features are sound, by more needs and a more lenient rule
+pub front_sound : {IsKept : Keeps} {bytes : List ℕ} {from to at : ℕ} {own : FieldScan} {summary : LayerSummary} {needs : TagNeeds} → IsLayerPassed IsKept bytes from to at own summary needs
+    → (Other : Keeps) → ((it : FeatureRecord) → IsKept it → Other it) → (more : TagNeeds) → needs.keys ≤ more.keys → needs.values ≤ more.values
+    → (layer : ℕ) → AreSoundBefore tells_none Other bytes (to - from) (to - from) (record { to = at; needs = more }) layer (record { from = from; to = to })
+front_sound {IsKept} {bytes} {from} {to} {at} {needs = needs} so_far Other still more more_keys more_values layer feature inner part ends = elim (passed_or_later (take to bytes) from at 2 so_far.entries part.entries so_far.scanning.passed part.whole feature inner part.here) [
+  | inl here ↦ still_good IsKept Other still bytes layer (to - from) needs more more_keys more_values (spans_of 2 so_far.entries) (so_far.good layer) feature inner here
+  | inr later ↦ absurd (omega (arith, later.after, later.forward))
+]
+
+-- the place is in the layer
+pub begun : {IsKept : Keeps} {bytes : List ℕ} {from to at : ℕ} {own : FieldScan} {summary : LayerSummary} {needs : TagNeeds} → IsLayerPassed IsKept bytes from to at own summary needs → from ≤ at
+begun {bytes = bytes} {from = from} {to = to} {at = at} so_far = fields_forward (take to bytes) from at so_far.entries so_far.scanning.passed
 
 module _ {IsKept : Keeps} {bytes : List ℕ} {from to at : ℕ} {own next_own : FieldScan} {summary : LayerSummary} {needs : TagNeeds} (inside : to ≤ length bytes) (so_far : IsLayerPassed IsKept bytes from to at own summary needs)
     {read : Field × ℕ} (next : PassesNext messages.Layer (take to bytes) at own next_own read) where

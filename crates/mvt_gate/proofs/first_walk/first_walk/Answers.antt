@@ -1,10 +1,17 @@
 use Rattle.std.proofs.Common.{inl, inr}
 use Rattle.std.proofs.lemmas.Bool.{both_ways}
+use Rattle.mvt_rules.specs.Parts.Geometry.{IsFaultOfGeometryBy}
+use Rattle.mvt_rules.specs.Valid.{IsValidGeometryBy}
+use Rattle.mvt_tile.proofs.RuleFaults.Seen.{nothing_seen}
+use Rattle.mvt_gate.proofs.SeenFigures.{seen_sound}
 use Rattle.mvt_gate.proofs.Verdicts.{valid_without_fault}
 use Rattle.mvt_gate.proofs.first_walk.first_walk.Goals as goal
 
 pub returns-then-figures : goal.returns-then-figures
-returns-then-figures c = c.in_ok-passes_one_walk.ensures.wire c.if-branch.true
+returns-then-figures c = (
+  c.in_ok-passes_one_walk.ensures.wire c.if-branch.true,
+  λ profile. nothing_seen (IsFaultOfGeometryBy profile) (IsValidGeometryBy profile) c.args.bytes.now c.nothing.result c.nothing.ensures,
+)
 
 pub returns-then-branch : goal.returns-then-branch
 returns-then-branch c = λ profile.
