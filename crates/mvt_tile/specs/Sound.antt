@@ -21,7 +21,7 @@ IsSoundIn IsBroken IsKept bytes IsKnown layer ordinal span =
 -- their tags need
 abbrev pub AreSoundBefore : Breaks → Keeps → List ℕ → ℕ → ℕ → Seen → ℕ → Span → Type 0
 AreSoundBefore IsBroken IsKept bytes keys values seen layer outer =
-    (feature : ℕ) (inner : Span) → IsPart bytes outer 2 feature inner → inner.to ≤ seen.to → IsSoundIn IsBroken IsKept bytes (IsLike keys values seen.needs) layer feature inner
+    (feature : ℕ) (inner : Span) → IsPart bytes outer 2 feature inner → inner.to < seen.to → IsSoundIn IsBroken IsKept bytes (IsLike keys values seen.needs) layer feature inner
 
 -- all features of a layer that ends in front of a place are sound; of another one those in front of the place, if it has what their
 -- tags need

@@ -1,5 +1,5 @@
 //! The rules on a feature of a tile, which is read from its bytes.
-ghost use Rattle.std.specs.Prelude.{◌≡◌, ◌≤◌, ℕ, None, IfOk, IfNone, IfSome};
+ghost use Rattle.std.specs.Prelude.{◌≡◌, ◌<◌, ◌≤◌, ℕ, None, IfOk, IfNone, IfSome};
 ghost use Rattle.mvt_fault.specs.declared.fault.Fault.{Fault};
 ghost use Rattle.mvt_rules.specs.Tile.{FeatureRecord, IsFeature, LayerRecord};
 ghost use Rattle.mvt_wire.specs.Embedded.{Holds, span_in};
@@ -88,7 +88,7 @@ pub(crate) fn find_unless_seen<R: FeatureRule>(
     requires stands { (feature_record : FeatureRecord) × Holds IsFeature part feature_record }
     requires nothing { found.old ≡ None }
     requires after_tags { AreAfterTags R.IsBroken }
-    requires sound { part.to ≤ seen.to → IsSoundIn R.IsBroken R.IsKept part.bytes.now
+    requires sound { part.to < seen.to → IsSoundIn R.IsBroken R.IsKept part.bytes.now
         (IsLike keys values seen.needs) layer_index feature_index (span_in part) }
     ensures no_fewer_keys { needs.old.keys ≤ needs.new.keys }
     ensures no_fewer_values { needs.old.values ≤ needs.new.values }
@@ -97,7 +97,7 @@ pub(crate) fn find_unless_seen<R: FeatureRule>(
         → FindsInFeature R.IsFree R.IsBroken R.IsKept layer_record feature_record layer_index feature_index
         found.new) }
 {
-    if part.to <= seen.to {
+    if part.to < seen.to {
         needs.add(seen.needs);
         return Ok(());
     }

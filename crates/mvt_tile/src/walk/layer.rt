@@ -60,14 +60,14 @@ pub(crate) fn walk_layer<'a, T: FeatureTest>(
             let (from, to) = payload_span(field.body);
             let bytes = part.bytes;
             if !passes_feature(Part { bytes, from, to }, test, buffer, most, &mut needs)? {
-                *seen = Seen { to: at, needs };
+                *seen = Seen { to: next, needs };
                 return Ok(None);
             }
         } else if field.number == VALUES {
             let (from, to) = payload_span(field.body);
             let bytes = part.bytes;
             if !is_one_field(Part { bytes, from, to }) {
-                *seen = Seen { to: at, needs };
+                *seen = Seen { to: next, needs };
                 return Ok(None);
             }
         }
