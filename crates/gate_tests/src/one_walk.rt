@@ -1,6 +1,6 @@
 //! That one walk says yes of tiles as writers make them. No clause says so: it may say nothing of any.
 use crate::device::bytes_of;
-use mvt_tile::{FeatureBytes, FeatureTest, passes_one_walk};
+use mvt_tile::{FeatureBytes, FeatureTest, Seen, passes_one_walk};
 use std::test::Fail;
 
 /// A rule that each feature keeps.
@@ -29,9 +29,9 @@ fn says_yes(rt: HostRuntime) -> Result<(), Fail> {
          22 02 20 01 22 02 28 01 22 02 30 01 22 02 38 01",
     ] {
         let bytes = bytes_of(&rt, tile)?;
-        let mut passed = 0;
+        let mut seen = Seen::nothing();
         assert!(rt;
-            passes_one_walk(rt.alloc(), &bytes, &mut NoRule, &mut passed)?,
+            passes_one_walk(rt.alloc(), &bytes, &mut NoRule, &mut seen)?,
             "of {tile}"
         );
     }

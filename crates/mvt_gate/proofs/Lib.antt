@@ -16,5 +16,6 @@ pub mod PolygonParts
 pub mod PolygonPlaces
 pub mod PolygonWalk
 pub mod QuickVerdicts
+pub mod SeenFigures
 pub mod ValidGeometries
 pub mod Verdicts

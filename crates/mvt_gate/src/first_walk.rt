@@ -4,7 +4,7 @@ ghost use Rattle.mvt_gate.specs.Calls.FirstWalk.{IsFirstWalk};
 
 use crate::figures::FigureTest;
 use mvt_fault::Fault;
-use mvt_tile::{passes_one_walk, wire_fault_after};
+use mvt_tile::{Seen, passes_one_walk, wire_fault_after};
 use std::alloc::{AllocError, Global};
 
 /// What is known of the bytes of a tile before its polygons are looked at.
@@ -14,8 +14,8 @@ pub(crate) enum FirstWalk {
     Valid,
     /// They aren't, and this is their first fault: a wire fault.
     Faulty(Fault),
-    /// They have no wire fault.
-    Whole,
+    /// They have no wire fault, and so far no other one.
+    Whole(Seen),
 }
 
 /// Walks over the bytes of a tile once. Where that doesn't say that they are right, but for polygons,
@@ -25,15 +25,19 @@ pub(crate) fn first_walk(alloc: Global, bytes: &[u8]) -> Result<FirstWalk, Alloc
     ensures { IfOk result (IsFirstWalk bytes.now) }
 {
     let mut figures = FigureTest::new();
-    let mut passed = 0;
-    if passes_one_walk(alloc, bytes, &mut figures, &mut passed)? {
+    let mut seen = Seen::nothing();
+    if passes_one_walk(alloc, bytes, &mut figures, &mut seen)? {
         if figures.has_polygons {
-            return Ok(FirstWalk::Whole);
+            return Ok(FirstWalk::Whole(Seen::nothing()));
         }
         return Ok(FirstWalk::Valid);
     }
-    match wire_fault_after(bytes, passed) {
-        Some(fault) => Ok(FirstWalk::Faulty(fault)),
-        None => Ok(FirstWalk::Whole),
+    if let Some(fault) = wire_fault_after(bytes, seen.to) {
+        return Ok(FirstWalk::Faulty(fault));
     }
+    if figures.has_polygons {
+        // (polygons weren't looked at)
+        return Ok(FirstWalk::Whole(Seen::nothing()));
+    }
+    Ok(FirstWalk::Whole(seen))
 }

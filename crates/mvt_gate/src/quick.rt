@@ -7,6 +7,7 @@ ghost use Rattle.mvt_fault.specs.declared.fault.Fault.{Fault};
 ghost use Rattle.mvt_fault.specs.declared.profile.Profile.TheVariants as profiles;
 ghost use Rattle.mvt_tile.specs.FreeFaults.{IsLeastOr};
 ghost use Rattle.mvt_tile.specs.RuleFaults.{BreaksAnyRule, KeepsRules};
+ghost use Rattle.mvt_tile.specs.Sound.{AreSoundTo};
 ghost use Rattle.mvt_rules.specs.Tile.{IsTile, TileRecord};
 ghost use Rattle.mvt_gate.specs.Quick.{IsFreeBy};
 ghost use Rattle.mvt_gate.specs.Verdict.{IsQuickVerdictBy, IsVerdictFor};
@@ -16,7 +17,7 @@ use crate::first_walk::{FirstWalk, first_walk};
 use crate::geometry::QuickGeometry;
 use crate::verdict::{Verdict, judge_with};
 use mvt_fault::{Fault, Profile};
-use mvt_tile::rule_fault;
+use mvt_tile::{Seen, rule_fault_after};
 use std::alloc::{AllocError, Global};
 
 /// Which faults are searched for.
@@ -72,21 +73,22 @@ pub fn judge_for(
 fn judge_features(alloc: Global, bytes: &[u8]) -> Result<Verdict, AllocError>
     ensures { IfOk result (IsQuickVerdictBy profiles.Feature bytes.now) }
 {
-    match first_walk(alloc, bytes)? {
+    let seen = match first_walk(alloc, bytes)? {
         FirstWalk::Valid => return Ok(Verdict::Yes),
         FirstWalk::Faulty(fault) => return Ok(Verdict::No(fault)),
-        FirstWalk::Whole => {}
-    }
-    match fault_of_features(alloc, bytes)? {
+        FirstWalk::Whole(seen) => seen,
+    };
+    match fault_of_features(alloc, bytes, seen)? {
         None => Ok(Verdict::Yes),
         Some(fault) => Ok(Verdict::No(fault)),
     }
 }
 
 /// The first fault of a tile, or any meeting of the first feature with a fault, or None where it keeps
-/// all rules. The bytes have no wire fault.
-fn fault_of_features(alloc: Global, bytes: &[u8]) -> Result<Option<Fault>, AllocError>
-    requires { (tile : TileRecord) × IsTile bytes.now tile }
+/// all rules. The bytes have no wire fault, and the features that were seen have none.
+fn fault_of_features(alloc: Global, bytes: &[u8], seen: Seen) -> Result<Option<Fault>, AllocError>
+    requires tile { (tile : TileRecord) × IsTile bytes.now tile }
+    requires sound { AreSoundTo (IsFaultOfGeometryBy profiles.Feature) (IsValidGeometryBy profiles.Feature) bytes.now seen }
     ensures none { IfOk result (λ found. IfNone found ((tile : TileRecord) → IsTile bytes.now tile
         → KeepsRules (IsValidGeometryBy profiles.Feature) tile)) }
     ensures found { IfOk result (λ found. IfSome found (λ fault. (tile : TileRecord)
@@ -94,5 +96,5 @@ fn fault_of_features(alloc: Global, bytes: &[u8]) -> Result<Option<Fault>, Alloc
         → IsLeastOr (IsFreeBy profiles.Feature)
         (BreaksAnyRule (IsFaultOfGeometryBy profiles.Feature) tile) fault)) }
 {
-    rule_fault(alloc, bytes, &mut QuickGeometry::new(alloc))
+    rule_fault_after(alloc, bytes, seen, &mut QuickGeometry::new(alloc))
 }

@@ -6,6 +6,7 @@ ghost use Rattle.mvt_rules.specs.Valid.{IsValidGeometryBy, Valid, ValidBy};
 ghost use Rattle.mvt_fault.specs.Place.{IsLeast};
 ghost use Rattle.mvt_fault.specs.declared.fault.Fault.{Fault};
 ghost use Rattle.mvt_tile.specs.RuleFaults.{BreaksAnyRule, KeepsRules};
+ghost use Rattle.mvt_tile.specs.Sound.{AreSoundTo};
 ghost use Rattle.mvt_rules.specs.Tile.{IsTile, TileRecord};
 ghost use Rattle.mvt_gate.specs.Verdict.{IsVerdict, IsVerdictBy};
 ghost use Rattle.mvt_gate.specs.declared.verdict.Verdict.{Verdict};
@@ -13,7 +14,7 @@ ghost use Rattle.mvt_gate.specs.declared.verdict.Verdict.{Verdict};
 use crate::first_walk::{FirstWalk, first_walk};
 use crate::geometry::{FeatureGeometry, PolygonGeometry};
 use mvt_fault::{Fault, Profile};
-use mvt_tile::rule_fault;
+use mvt_tile::{Seen, rule_fault_after};
 use std::alloc::{AllocError, Global};
 
 /// What the gate says of the bytes of a tile.
@@ -70,25 +71,28 @@ pub fn judge_with(alloc: Global, profile: Profile, bytes: &[u8]) -> Result<Verdi
     ensures invalid { IfOk result (λ verdict. ¬ ValidBy profile bytes.now
         → (fault : Fault) × (verdict ≡ Verdict.No fault) × ShowsBy profile bytes.now fault) }
 {
-    match first_walk(alloc, bytes)? {
+    let seen = match first_walk(alloc, bytes)? {
         FirstWalk::Valid => return Ok(Verdict::Yes),
         FirstWalk::Faulty(fault) => return Ok(Verdict::No(fault)),
-        FirstWalk::Whole => {}
-    }
-    match fault_of_rules(alloc, profile, bytes)? {
+        FirstWalk::Whole(seen) => seen,
+    };
+    match fault_of_rules(alloc, profile, bytes, seen)? {
         None => Ok(Verdict::Yes),
         Some(fault) => Ok(Verdict::No(fault)),
     }
 }
 
 /// The first fault of a tile by its rules and those of the profile, or None where it keeps them.
-/// The bytes have no wire fault. The only error is that memory was refused.
+/// The bytes have no wire fault, and the features that were seen have none. The only error is that
+/// memory was refused.
 fn fault_of_rules(
     alloc: Global,
     profile: Profile,
     bytes: &[u8],
+    seen: Seen,
 ) -> Result<Option<Fault>, AllocError>
-    requires { (tile : TileRecord) × IsTile bytes.now tile }
+    requires tile { (tile : TileRecord) × IsTile bytes.now tile }
+    requires sound { AreSoundTo (IsFaultOfGeometryBy profile) (IsValidGeometryBy profile) bytes.now seen }
     ensures none { IfOk result (λ found. IfNone found ((tile : TileRecord) → IsTile bytes.now tile
         → KeepsRules (IsValidGeometryBy profile) tile)) }
     ensures least { IfOk result (λ found. IfSome found (λ fault. (tile : TileRecord)
@@ -96,7 +100,7 @@ fn fault_of_rules(
         → IsLeast (BreaksAnyRule (IsFaultOfGeometryBy profile) tile) fault)) }
 {
     match profile {
-        Profile::Polygon => rule_fault(alloc, bytes, &mut PolygonGeometry::new(alloc)),
-        Profile::Feature => rule_fault(alloc, bytes, &mut FeatureGeometry::new(alloc)),
+        Profile::Polygon => rule_fault_after(alloc, bytes, seen, &mut PolygonGeometry::new(alloc)),
+        Profile::Feature => rule_fault_after(alloc, bytes, seen, &mut FeatureGeometry::new(alloc)),
     }
 }

@@ -13,6 +13,7 @@ pub mod Names
 pub mod OneAdvice
 pub mod Repetitions
 pub mod RuleOrder
+pub mod Seen
 pub mod SummaryReading
 pub mod TagFaults
 pub mod TagScans

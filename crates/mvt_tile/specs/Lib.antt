@@ -6,4 +6,5 @@ pub mod FreeFaults
 pub mod Passed
 pub mod ReadFault
 pub mod RuleFaults
+pub mod Sound
 pub mod View

@@ -10,6 +10,7 @@ mod lists;
 mod read;
 mod record;
 mod rules;
+mod seen;
 mod walk;
 mod wire;
 
@@ -18,6 +19,7 @@ pub use feature_bytes::FeatureBytes;
 pub use lists::list_of;
 pub use read::{ReadFault, read_tile};
 pub use record::{Feature, Kind, Layer, Tile, Value};
-pub use rules::{FeatureRule, check_layers, check_tags, rule_fault, rule_faults};
+pub use rules::{FeatureRule, check_layers, check_tags, rule_fault, rule_fault_after, rule_faults};
+pub use seen::Seen;
 pub use walk::{FeatureTest, passes_one_walk};
 pub use wire::{wire_fault, wire_fault_after};

@@ -10,6 +10,7 @@ ghost use Rattle.mvt_tile.specs.Calls.PassedLayers.{EndsLayers, passed, PassesLa
 ghost use Rattle.mvt_tile.specs.Calls.RuleFaults.{AreAfterTags};
 ghost use Rattle.mvt_tile.specs.FreeFaults.{IsLeastOr};
 ghost use Rattle.mvt_tile.specs.RuleFaults.{IsAfterTags, BreaksAnyRule, KeepsRules};
+ghost use Rattle.mvt_tile.specs.Sound.{AreSoundTo};
 
 mod faults;
 mod feature_faults;
@@ -26,6 +27,7 @@ mod tags;
 #[cfg(test)]
 mod tests;
 
+use crate::seen::Seen;
 pub use faults::rule_faults;
 pub(crate) use features::FeatureBuffer;
 pub use features::FeatureRule;
@@ -72,9 +74,36 @@ pub fn rule_fault<R: FeatureRule>(
         → IsTile bytes.now tile
         → IsLeast (BreaksAnyRule R.IsBroken tile) fault)) }
 {
+    rule_fault_after(alloc, bytes, Seen::nothing(), rule)
+}
+
+/// The same where no feature in front of an offset has a fault: those features aren't looked at, but
+/// where a tag of their layer names a key or a value that it doesn't have.
+pub fn rule_fault_after<R: FeatureRule>(
+    alloc: Global,
+    bytes: &[u8],
+    seen: Seen,
+    rule: &mut R,
+) -> Result<Option<Fault>, AllocError>
+    requires tile { (tile : TileRecord) × IsTile bytes.now tile }
+    requires sound { AreSoundTo R.IsBroken R.IsKept bytes.now seen }
+    requires after_tags { (feature_record : FeatureRecord) (layer_index feature_index : ℕ)
+        (fault : Fault)
+        → R.IsBroken feature_record layer_index feature_index fault
+        → IsAfterTags layer_index feature_index (place_of fault) }
+    ensures none { IfOk result (λ found. IfNone found ((tile : TileRecord) → IsTile bytes.now tile
+        → KeepsRules R.IsKept tile)) }
+    ensures found { IfOk result (λ found. IfSome found (λ fault. (tile : TileRecord)
+        → IsTile bytes.now tile
+        → IsLeastOr R.IsFree (BreaksAnyRule R.IsBroken tile) fault)) }
+    ensures least { ((fault : Fault) → ¬ R.IsFree fault)
+        → IfOk result (λ found. IfSome found (λ fault. (tile : TileRecord)
+        → IsTile bytes.now tile
+        → IsLeast (BreaksAnyRule R.IsBroken tile) fault)) }
+{
     let mut layers = LayerRules::new(alloc);
     let mut found = None;
-    walk_layers(alloc, bytes, rule, &mut layers, &mut found)?;
+    walk_layers(alloc, bytes, seen, rule, &mut layers, &mut found)?;
     match layers.fault() {
         Some(fault) => Ok(Some(fault)),
         None => Ok(found),
@@ -88,11 +117,13 @@ pub fn rule_fault<R: FeatureRule>(
 fn walk_layers<'a, R: FeatureRule>(
     alloc: Global,
     bytes: &'a [u8],
+    seen: Seen,
     rule: &mut R,
     layers: &mut LayerRules<'a>,
     found: &mut Option<Fault>,
 ) -> Result<(), AllocError>
     requires tile { (tile : TileRecord) × IsTile bytes.now tile }
+    requires sound { AreSoundTo R.IsBroken R.IsKept bytes.now seen }
     requires begins { passed layers.old ≡ 0 }
     requires nothing { found.old ≡ None }
     requires passes { (tile : TileRecord) → PassesLayers layers.old tile }
@@ -109,7 +140,7 @@ fn walk_layers<'a, R: FeatureRule>(
         if field.number == LAYERS {
             let (from, to) = payload_span(field.body);
             let part = Part { bytes, from, to };
-            let summary = find_in_layer(part, rule, layer_index, &mut buffer, found)?;
+            let summary = find_in_layer(part, rule, layer_index, seen, &mut buffer, found)?;
             if !layers.note(summary.version, summary.name)? {
                 return Ok(());
             }

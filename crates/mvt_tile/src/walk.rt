@@ -7,12 +7,14 @@ ghost use Rattle.mvt_wire.specs.declared.cause.WireCause.{WireCause};
 ghost use Rattle.mvt_wire.specs.declared.scope.Scope.{Scope};
 ghost use Rattle.mvt_tile.specs.Passed.{IsPassed};
 ghost use Rattle.mvt_tile.specs.RuleFaults.{KeepsRules};
+ghost use Rattle.mvt_tile.specs.Sound.{AreSoundTo, tells_none};
 
 mod feature;
 mod layer;
 mod value;
 
-use crate::rules::{FeatureBuffer, LayerRules};
+use crate::rules::{FeatureBuffer, LayerRules, TagNeeds};
+use crate::seen::Seen;
 use crate::wire::scan::FieldScan;
 pub use feature::FeatureTest;
 use layer::walk_layer;
@@ -24,20 +26,22 @@ use std::alloc::{AllocError, Global};
 /// Whether the bytes are known, after one walk over them, to be a tile without wire fault
 /// (`wire_fault`) that keeps the rules (`rule_fault`), of which each feature keeps a further one. It
 /// ends at the first part that doesn't look as writers make it, and then says no more than how far it
-/// has come: false may be said of any bytes, and up to the offset `passed` they have no wire fault.
+/// has come: false may be said of any bytes, and in front of the offset `seen.to` nothing is wrong.
 /// Its memory is for the names of the layers and for marks of keys. The only error is that memory was
 /// refused.
 pub fn passes_one_walk<T: FeatureTest>(
     alloc: Global,
     bytes: &[u8],
     test: &mut T,
-    passed: &mut usize,
+    seen: &mut Seen,
 ) -> Result<bool, AllocError>
     ensures wire { IfOk result (λ passes. IsTrue passes → (scope : Scope) (cause : WireCause)
         → ¬ WireFault bytes.now scope cause) }
     ensures rules { IfOk result (λ passes. IsTrue passes → (tile : TileRecord)
         → IsTile bytes.now tile → KeepsRules (T.IsKept test.new) tile) }
-    ensures passed { IfOk result (λ passes. IsFalse passes → IsPassed bytes.now passed.new) }
+    ensures passed { IfOk result (λ passes. IsFalse passes → IsPassed bytes.now seen.new.to) }
+    ensures sound { IfOk result (λ passes. IsFalse passes
+        → AreSoundTo tells_none (T.IsKept test.new) bytes.now seen.new) }
 {
     let mut own = FieldScan::new();
     let mut layers = LayerRules::new(alloc);
@@ -47,22 +51,32 @@ pub fn passes_one_walk<T: FeatureTest>(
         if field.number == LAYERS {
             let (from, to) = payload_span(field.body);
             let part = Part { bytes, from, to };
-            let Some(summary) = walk_layer(part, test, &mut buffer, passed)? else {
+            let Some(summary) = walk_layer(part, test, &mut buffer, seen)? else {
                 return Ok(false);
             };
             if !layers.note(summary.version, summary.name)? {
-                *passed = next;
+                *seen = seen_to(next + 1);
                 return Ok(false);
             }
         }
         at = next;
     }
-    *passed = at;
+    *seen = seen_to(at + 1);
     if at < bytes.len() || own.end_fault(Message::Tile, bytes.len()).is_some() {
         return Ok(false);
     }
     match layers.fault() {
         None => Ok(true),
         Some(_) => Ok(false),
+    }
+}
+
+/// Nothing is wrong in front of an offset, at which is no layer.
+fn seen_to(to: usize) -> Seen
+    ensures { result.to ≡ to }
+{
+    Seen {
+        to,
+        needs: TagNeeds::none(),
     }
 }

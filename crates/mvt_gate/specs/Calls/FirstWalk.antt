@@ -3,15 +3,19 @@ use Rattle.std.specs.Prelude.{ℕ, List}
 use Rattle.mvt_fault.specs.Place.{IsLeast}
 use Rattle.mvt_fault.specs.declared.profile.Profile.{Profile}
 use Rattle.mvt_rules.specs.Parts.TrueFaults.{IsWireFault}
-use Rattle.mvt_rules.specs.Valid.{ValidBy}
+use Rattle.mvt_rules.specs.Parts.Geometry.{IsFaultOfGeometryBy}
+use Rattle.mvt_rules.specs.Valid.{IsValidGeometryBy, ValidBy}
 use Rattle.mvt_rules.specs.WireFault.{WireFault}
 use Rattle.mvt_wire.specs.declared.cause.WireCause.{WireCause}
 use Rattle.mvt_wire.specs.declared.scope.Scope.{Scope}
+use Rattle.mvt_tile.specs.Sound.{AreSoundTo}
 use Rattle.mvt_gate.specs.declared.first_walk.FirstWalk.{FirstWalk}
 use Rattle.mvt_gate.specs.declared.first_walk.FirstWalk.TheVariants.{Valid, Faulty, Whole}
 
--- they are a valid tile by each profile; or this is their first wire fault; or they have none
+-- they are a valid tile by each profile; or this is their first wire fault; or they have none, and the features that were seen have
+-- no fault by any profile
 abbrev pub IsFirstWalk : List ℕ → FirstWalk → Type 0
 IsFirstWalk bytes Valid = (profile : Profile) → ValidBy profile bytes
 IsFirstWalk bytes (Faulty fault) = IsLeast (IsWireFault bytes) fault
-IsFirstWalk bytes Whole = (scope : Scope) (cause : WireCause) → ¬ WireFault bytes scope cause
+IsFirstWalk bytes (Whole seen) =
+    ((scope : Scope) (cause : WireCause) → ¬ WireFault bytes scope cause) × ((profile : Profile) → AreSoundTo (IsFaultOfGeometryBy profile) (IsValidGeometryBy profile) bytes seen)

@@ -1,5 +1,5 @@
 -- A walk over a layer, none of whose fields, values and features that were passed has a fault.
-use Rattle.std.proofs.Common.{◌≡◌, ◌≢◌, ℕ, ◌-◌, ◌<◌, ◌≤◌, List, [], ◌∷◌, ◌++◌, length, take, false, is_some, Option, Some, inl, inr, refl, sym, ◌∙◌, subst, arith}
+use Rattle.std.proofs.Common.{◌≡◌, ◌≢◌, ◌⊎◌, slice_get, ℕ, ◌-◌, ◌<◌, ◌≤◌, List, [], ◌∷◌, ◌++◌, length, take, false, is_some, Option, Some, inl, inr, refl, sym, ◌∙◌, subst, arith}
 use Rattle.std.proofs.lemmas.List.{length-take-le}
 use Rattle.mvt_wire.specs.Embedded.{AreClean}
 use Rattle.mvt_wire.specs.Field.{Entry, entry_of}
@@ -11,15 +11,18 @@ use Rattle.mvt_wire.specs.declared.schema.Message.{Message}
 use Rattle.mvt_wire.specs.declared.schema.Message.TheVariants as messages
 use Rattle.mvt_wire.proofs.Encoding.Messages.{one_list}
 use Rattle.mvt_wire.proofs.Encoding.Payloads.{picked-push, picked-other}
+use Rattle.mvt_wire.proofs.FieldNumbers.NumberStops.{fields_forward}
 use Rattle.mvt_wire.proofs.Parts.EmbeddedSpans.{AreClean-push}
 use Rattle.mvt_rules.specs.Parts.Fields.{FitsRule}
+use Rattle.mvt_rules.specs.Scope.{IsPart}
 use Rattle.mvt_rules.specs.Tile.{FeatureRecord, LayerRecord, IsLayer}
 use Rattle.mvt_rules.specs.WireFault.{EndFault, MessageFault}
 use Rattle.mvt_tile.specs.RuleFaults.{Keeps}
 use Rattle.mvt_tile.specs.Calls.Embedded.{HasNone, IsFaultlessLayer}
 use Rattle.mvt_tile.specs.Calls.FieldScan.{HasScanned, PassesNext}
 use Rattle.mvt_tile.specs.Calls.Least.{FindsLeastCause}
-use Rattle.mvt_tile.specs.Calls.OneWalk.{PassesFeature, PassesLayer, tells_none}
+use Rattle.mvt_tile.specs.Calls.OneWalk.{PassesFeature, PassesLayer}
+use Rattle.mvt_tile.specs.Sound.{AreSoundBefore, tells_none}
 use Rattle.mvt_tile.specs.Calls.Passed.{ArePassed, ArePartsPassed}
 use Rattle.mvt_tile.specs.Calls.Reading.{GivesSummary}
 use Rattle.mvt_tile.specs.Calls.RuleFaults.{AreAfterTags, IsLike, IsSummary}
@@ -30,7 +33,7 @@ use Rattle.mvt_tile.proofs.Reading.ScannedFeatures.{FitsRule-scanned, nothing_fo
 use Rattle.mvt_tile.proofs.RuleFaults.FeatureFaults.{good_layer}
 use Rattle.mvt_tile.proofs.RuleFaults.FeatureScan.{fewer, IsLike-counted}
 use Rattle.mvt_tile.proofs.RuleFaults.SummaryReading.{few_counted, IsSummary-from_told}
-use Rattle.mvt_tile.proofs.WireFaults.LaterParts.{passed_or_later}
+use Rattle.mvt_tile.proofs.WireFaults.LaterParts.{passed_or_later, passed_or_next}
 use Rattle.mvt_tile.proofs.WireFaults.Layers.{IsLayerFault-none}
 use Rattle.mvt_tile.proofs.WireFaults.Walking.{IsScanning, IsScanning-more, IsScanning-whole}
 
@@ -70,16 +73,44 @@ pub passed_unchanged : {IsKept : Keeps} {bytes : List ℕ} {from to at : ℕ} {o
     → IsLayerPassed IsKept bytes from to at next_own summary needs
 passed_unchanged {IsKept} {bytes} {from} {to} {at} {summary = summary} {needs = needs} so_far same = subst (λ (scan : FieldScan). IsLayerPassed IsKept bytes from to at scan summary needs) (sym same) so_far
 
--- up to here no value and no feature has a fault
+-- a part of the layer is one of those that were passed, or ends at a place or later
+abbrev pub IsPlace : {IsKept : Keeps} {bytes : List ℕ} {from to at : ℕ} {own : FieldScan} {summary : LayerSummary} {needs : TagNeeds} → IsLayerPassed IsKept bytes from to at own summary needs → ℕ → Type 0
+IsPlace {bytes = bytes} {from = from} {to = to} so_far place =
+    (field_number ordinal : ℕ) (inner : Span) → IsPart bytes (record { from = from; to = to }) field_number ordinal inner → (slice_get (spans_of field_number so_far.entries) ordinal ≡ Some inner) ⊎ (place ≤ inner.to)
+
 module _ {IsKept : Keeps} {bytes : List ℕ} {from to at : ℕ} {own : FieldScan} {summary : LayerSummary} {needs : TagNeeds} (so_far : IsLayerPassed IsKept bytes from to at own summary needs) where
-  none_before : (message : Message) (field_number : ℕ) → AreClean (HasNone message bytes) (spans_of field_number so_far.entries) → ArePassed message field_number bytes at (record { from = from; to = to })
-  none_before message field_number clean ordinal inner cause part fault = elim (passed_or_later (take to bytes) from at field_number so_far.entries part.entries so_far.scanning.passed part.whole ordinal inner part.here) [
-    | inl here ↦ absurd (clean ordinal inner here cause fault)
-    | inr later ↦ omega (arith, later.after, later.forward)
+  -- the walk's place is such a one
+  pub place_here : IsPlace so_far at
+  place_here field_number ordinal inner part = elim (passed_or_later (take to bytes) from at field_number so_far.entries part.entries so_far.scanning.passed part.whole ordinal inner part.here) [
+    | inl here ↦ inl here
+    | inr later ↦ inr (omega (arith, later.after, later.forward))
   ]
 
-  pub parts_passed : ArePartsPassed bytes at (record { from = from; to = to })
-  parts_passed = record { values = none_before messages.Value 4 so_far.values; features = none_before messages.Feature 2 so_far.features }
+  -- and so is the end of the next field
+  pub place_next : {next_own : FieldScan} {read : Field × ℕ} → PassesNext messages.Layer (take to bytes) at own next_own read → IsPlace so_far read.1
+  place_next {read = read} next field_number ordinal inner part =
+      passed_or_next (take to bytes) from at field_number so_far.entries part.entries so_far.scanning.passed part.whole ordinal inner part.here read.1 (entry_of read.0) next.given.here next.given.encoded
+
+  -- the next field ends in the layer
+  pub next_inside : {next_own : FieldScan} {read : Field × ℕ} → to ≤ length bytes → PassesNext messages.Layer (take to bytes) at own next_own read → read.1 ≤ to
+  next_inside inside next = let size = length-take-le to bytes inside in omega (arith, next.given.within)
+
+  -- the place is in the layer
+  pub begun : from ≤ at
+  begun = fields_forward (take to bytes) from at so_far.entries so_far.scanning.passed
+
+  pub next_begun : {next_own : FieldScan} {read : Field × ℕ} → PassesNext messages.Layer (take to bytes) at own next_own read → from ≤ read.1
+  next_begun next = let here = begun in omega (arith, next.given.further)
+
+  -- in front of such a place no value and no feature has a fault
+  none_before : (place : ℕ) → IsPlace so_far place → (message : Message) (field_number : ℕ) → AreClean (HasNone message bytes) (spans_of field_number so_far.entries) → ArePassed message field_number bytes place (record { from = from; to = to })
+  none_before place is message field_number clean ordinal inner cause part fault = elim (is field_number ordinal inner part) [
+    | inl here ↦ absurd (clean ordinal inner here cause fault)
+    | inr later ↦ later
+  ]
+
+  pub parts_passed : (place : ℕ) → IsPlace so_far place → ArePartsPassed bytes place (record { from = from; to = to })
+  parts_passed place is = record { values = none_before place is messages.Value 4 so_far.values; features = none_before place is messages.Feature 2 so_far.features }
 
 -- what is good by fewer needs and one rule is so by more needs and a more lenient rule
 module _ (IsKept Other : Keeps) (still : (it : FeatureRecord) → IsKept it → Other it) (bytes : List ℕ) (layer most : ℕ) (before needs : TagNeeds) (more_keys : before.keys ≤ needs.keys) (more_values : before.values ≤ needs.values) where
@@ -87,6 +118,15 @@ module _ (IsKept Other : Keeps) (still : (it : FeatureRecord) → IsKept it → 
   still_good spans good ordinal span here it is layer_record like =
       let sound = good ordinal span here it is layer_record (fewer before needs more_keys more_values layer_record like) in
       record { faultless = sound.faultless; kept = still it sound.kept }
+
+-- in front of such a place the features are sound, by more needs and a more lenient rule
+pub front_sound : {IsKept : Keeps} {bytes : List ℕ} {from to at : ℕ} {own : FieldScan} {summary : LayerSummary} {needs : TagNeeds} (so_far : IsLayerPassed IsKept bytes from to at own summary needs) (place : ℕ) → IsPlace so_far place
+    → (Other : Keeps) → ((it : FeatureRecord) → IsKept it → Other it) → (more : TagNeeds) → needs.keys ≤ more.keys → needs.values ≤ more.values
+    → (layer : ℕ) → AreSoundBefore tells_none Other bytes (to - from) (to - from) (record { to = place; needs = more }) layer (record { from = from; to = to })
+front_sound {IsKept} {bytes} {from} {to} {needs = needs} so_far place is Other still more more_keys more_values layer feature inner part ends = elim (is 2 feature inner part) [
+  | inl here ↦ still_good IsKept Other still bytes layer (to - from) needs more more_keys more_values (spans_of 2 so_far.entries) (so_far.good layer) feature inner here
+  | inr later ↦ absurd (omega arith)
+]
 
 module _ {IsKept : Keeps} {bytes : List ℕ} {from to at : ℕ} {own next_own : FieldScan} {summary : LayerSummary} {needs : TagNeeds} (inside : to ≤ length bytes) (so_far : IsLayerPassed IsKept bytes from to at own summary needs)
     {read : Field × ℕ} (next : PassesNext messages.Layer (take to bytes) at own next_own read) where

@@ -1,5 +1,5 @@
 -- A walk over a tile, none of whose fields and layers that were passed has a fault.
-use Rattle.std.proofs.Common.{◌≡◌, ◌≢◌, ◌⊎◌, ℕ, ◌+◌, ◌≤◌, List, [], ◌∷◌, ◌++◌, length, take, false, is_some, Option, Some, None, inl, inr, refl, sym, ◌∙◌, ap, subst, arith}
+use Rattle.std.proofs.Common.{◌≡◌, ◌≢◌, ◌⊎◌, ℕ, ◌+◌, ◌-◌, ◌<◌, ◌≤◌, List, [], ◌∷◌, ◌++◌, length, take, false, is_some, Option, Some, None, inl, inr, refl, sym, ◌∙◌, ap, subst, arith}
 use Rattle.std.proofs.Math.Seq.{take-length}
 use Rattle.std.proofs.lemmas.List.{length-take-le}
 use Rattle.mvt_wire.specs.Field.{Entry, entry_of}
@@ -23,7 +23,9 @@ use Rattle.mvt_tile.specs.RuleFaults.{Keeps, KeepsRules}
 use Rattle.mvt_tile.specs.Calls.Embedded.{IsFaultlessLayer, wire}
 use Rattle.mvt_tile.specs.Calls.FieldScan.{HasScanned, PassesNext}
 use Rattle.mvt_tile.specs.Calls.Least.{FindsLeastCause}
-use Rattle.mvt_tile.specs.Calls.OneWalk.{PassesLayer, tells_none}
+use Rattle.mvt_tile.specs.Calls.OneWalk.{PassesLayer}
+use Rattle.mvt_tile.specs.Sound.{AreSoundBefore, AreSoundTo, IsSoundTo, tells_none}
+use Rattle.mvt_tile.specs.declared.seen.Seen.{Seen}
 use Rattle.mvt_tile.specs.Calls.Passed.{ArePartsPassed, IsKnownTo}
 use Rattle.mvt_tile.specs.Calls.PassedLayers.{passed, EndsLayers, IsNextLayer, PassesLayers}
 use Rattle.mvt_tile.specs.declared.rules.layer_rules.LayerRules.{LayerRules}
@@ -36,7 +38,7 @@ use Rattle.mvt_tile.proofs.RuleFaults.RuleOrder.{no_rule_broken}
 use Rattle.mvt_tile.proofs.RuleFaults.TileScan.{Summarizes, IsNextLayer-given, EndsLayers-over}
 use Rattle.mvt_tile.proofs.WireFaults.CleanWalk.{CleanWalk, CleanWalk-nothing, CleanWalk-weaker, CleanWalk-other, CleanWalk-more, CleanWalk-over}
 use Rattle.mvt_tile.proofs.WireFaults.Known.{IsPart-after}
-use Rattle.mvt_tile.proofs.WireFaults.LaterParts.{LiesAfter, field_after, passed_or_later}
+use Rattle.mvt_tile.proofs.WireFaults.LaterParts.{LiesAfter, field_after, parts_after, passed_or_later}
 use Rattle.mvt_tile.proofs.WireFaults.Tiles.{WireFault-none}
 use Rattle.mvt_tile.proofs.WireFaults.Walking.{IsScanning, IsScanning-more, IsScanning-whole}
 
@@ -59,7 +61,7 @@ no_fault_in bytes place ordinal span faultless = record {
 }
 
 -- where the layers that were passed have no fault in front of a place that the walk has reached, the tile has none
-module _ (bytes : List ℕ) (place : ℕ) {at : ℕ} (reached : place ≤ at) {count : ℕ} (so_far : CleanWalk (λ ordinal. IsKnownTo bytes place) 3 (take (length bytes) bytes) 0 (walk_to bytes at) count) where
+module _ (bytes : List ℕ) (place : ℕ) {at : ℕ} (reached : place ≤ at + 1) {count : ℕ} (so_far : CleanWalk (λ ordinal. IsKnownTo bytes place) 3 (take (length bytes) bytes) 0 (walk_to bytes at) count) where
   known_or_later : (layer : ℕ) (span : Span) → IsPart bytes (whole_span bytes) 3 layer span → IsKnownTo bytes place span ⊎ LiesAfter at (length (take (length bytes) bytes)) span
   known_or_later layer span part = elim (passed_or_later (take (length bytes) bytes) 0 at 3 so_far.entries part.entries so_far.walking.passed part.whole layer span part.here) [
     | inl here ↦ inl (so_far.clean layer span here)
@@ -80,6 +82,33 @@ module _ (bytes : List ℕ) (place : ℕ) {at : ℕ} (reached : place ≤ at) {c
     | inl known ↦ known.parts.features feature fault.span cause fault.there.2 fault.fault
     | inr later ↦ let lies = IsPart-after bytes fault.there.0 2 feature fault.span fault.there.2 in omega (arith, later.after, lies.after, lies.forward)
   ]
+
+-- the layers that were passed are sound in front of a later place, by a more lenient rule
+sound_in_front : (IsKept Other : Keeps) → ((it : FeatureRecord) → IsKept it → Other it) → (bytes : List ℕ) (seen : Seen) {at count : ℕ} → CleanWalk (IsRight IsKept bytes) 3 (take (length bytes) bytes) 0 (walk_to bytes at) count → at < seen.to
+    → CleanWalk (IsSoundTo tells_none Other bytes seen) 3 (take (length bytes) bytes) 0 (walk_to bytes at) count
+sound_in_front IsKept Other still bytes seen {at} so_far ends = record {
+  entries = so_far.entries;
+  walking = so_far.walking;
+  counted = so_far.counted;
+  clean = λ ordinal span here.
+      let lies = parts_after (take (length bytes) bytes) 0 at 3 so_far.entries so_far.walking.passed ordinal span here in
+      let before = lies.before in
+      record {
+        whole = λ less layer_record is feature it there. let sound = (so_far.clean ordinal span here).1 layer_record is feature it there in record { faultless = sound.faultless; kept = still it sound.kept };
+        front = λ beyond. absurd (omega arith);
+      };
+  few = so_far.few;
+}
+
+-- where the layers that were passed are sound in front of a place that the walk has reached, all are
+all_sound : {IsKept : Keeps} (bytes : List ℕ) (seen : Seen) {at count : ℕ} → seen.to ≤ at + 1 → CleanWalk (IsSoundTo tells_none IsKept bytes seen) 3 (take (length bytes) bytes) 0 (walk_to bytes at) count → AreSoundTo tells_none IsKept bytes seen
+all_sound bytes seen {at} reached so_far layer outer part = elim (passed_or_later (take (length bytes) bytes) 0 at 3 so_far.entries part.entries so_far.walking.passed part.whole layer outer part.here) [
+  | inl here ↦ so_far.clean layer outer here
+  | inr later ↦ record {
+    whole = λ less. absurd (omega (arith, later.after, later.forward));
+    front = λ beyond feature inner there ends. let lies = IsPart-after bytes outer 2 feature inner there in absurd (omega (arith, later.after, lies.after, lies.forward));
+  }
+]
 
 -- What is known of the fields up to a place: none has a fault, nor has a layer among them, whose versions and names are kept.
 pub record IsTilePassed (IsKept : Keeps) (bytes : List ℕ) (at : ℕ) (own : FieldScan) (rules : LayerRules) : Type 0 where
@@ -113,8 +142,12 @@ known_to : {IsKept : Keeps} {bytes : List ℕ} {at : ℕ} {own : FieldScan} {rul
 known_to {bytes = bytes} place so_far = CleanWalk-weaker (λ ordinal. IsKnownTo bytes place) (λ ordinal span right. no_fault_in bytes place ordinal span right.0) so_far.layers
 
 -- so nothing in front of the walk's place has one
-pub passed_to : {IsKept : Keeps} {bytes : List ℕ} {at : ℕ} {own : FieldScan} {rules : LayerRules} → IsTilePassed IsKept bytes at own rules → IsPassed bytes at
-passed_to {bytes = bytes} {at = at} so_far = all_passed bytes at (omega arith) (known_to at so_far)
+pub passed_to : {IsKept : Keeps} {bytes : List ℕ} {at : ℕ} {own : FieldScan} {rules : LayerRules} (place : ℕ) → place ≡ at + 1 → IsTilePassed IsKept bytes at own rules → IsPassed bytes place
+passed_to {bytes = bytes} {at = at} place is so_far = all_passed bytes place (omega arith) (known_to place so_far)
+
+-- and no feature there
+pub sound_to : {IsKept : Keeps} {bytes : List ℕ} {at : ℕ} {own : FieldScan} {rules : LayerRules} (seen : Seen) → seen.to ≡ at + 1 → IsTilePassed IsKept bytes at own rules → AreSoundTo tells_none IsKept bytes seen
+sound_to {IsKept} {bytes} {at} seen is so_far = all_sound bytes seen (omega arith) (sound_in_front IsKept IsKept (λ it kept. kept) bytes seen so_far.layers (omega arith))
 
 module _ {IsKept : Keeps} {bytes : List ℕ} {at : ℕ} {own next_own : FieldScan} {rules : LayerRules} (so_far : IsTilePassed IsKept bytes at own rules) {read : Field × ℕ} (next : PassesNext messages.Tile bytes at own next_own read) where
   -- the next field fits its rule
@@ -146,8 +179,27 @@ module _ {IsKept : Keeps} {bytes : List ℕ} {at : ℕ} {own next_own : FieldSca
         all_passed bytes place (omega arith) (CleanWalk-more (known_to place so_far) next.given own_layer span there (record { own = λ cause fault. inside; parts = parts }))
 
     -- or have no wire fault
-    pub passed_layer : ((ordinal : ℕ) → IsFaultlessLayer bytes ordinal span) → IsPassed bytes read.1
-    passed_layer faultless = all_passed bytes read.1 (omega arith) (CleanWalk-more (known_to read.1 so_far) next.given own_layer span there (no_fault_in bytes read.1 so_far.count span (faultless so_far.count)))
+    pub passed_layer : (place : ℕ) → place ≡ read.1 + 1 → ((ordinal : ℕ) → IsFaultlessLayer bytes ordinal span) → IsPassed bytes place
+    passed_layer place is faultless = all_passed bytes place (omega arith) (CleanWalk-more (known_to place so_far) next.given own_layer span there (no_fault_in bytes place so_far.count span (faultless so_far.count)))
+
+    -- so with its features, by a more lenient rule
+    module _ (Other : Keeps) (still : (it : FeatureRecord) → IsKept it → Other it) (seen : Seen) where
+      pub sound_in_layer : span.from ≤ seen.to → seen.to ≤ span.to → ((layer : ℕ) → AreSoundBefore tells_none Other bytes (span.to - span.from) (span.to - span.from) seen layer span) → AreSoundTo tells_none Other bytes seen
+      sound_in_layer begun inside front =
+          let lies = field_after bytes read.1 (entry_of read.0) span next.given.encoded there in
+          let here = next.given.here in
+          let after = lies.after in
+          let before = lies.before in
+          all_sound bytes seen (omega arith)
+          (CleanWalk-more (sound_in_front IsKept Other still bytes seen so_far.layers (omega arith)) next.given own_layer span there (record { whole = λ less. absurd (omega arith); front = λ beyond. front so_far.count }))
+
+      pub sound_layer : seen.to ≡ read.1 + 1 → ((ordinal : ℕ) → PassesLayer Other bytes ordinal span) → AreSoundTo tells_none Other bytes seen
+      sound_layer is passes =
+          let lies = field_after bytes read.1 (entry_of read.0) span next.given.encoded there in
+          let before = lies.before in
+          let further = next.given.further in
+          all_sound bytes seen (omega arith)
+          (CleanWalk-more (sound_in_front IsKept Other still bytes seen so_far.layers (omega arith)) next.given own_layer span there (record { whole = λ less. passes so_far.count; front = λ beyond. absurd (omega arith) }))
 
     -- and passed where it is right
     pub passes_more : (Other : Keeps) → ((it : FeatureRecord) → IsKept it → Other it) → (more : LayerRules) → passed more ≡ passed rules + 1 → ((tile : TileRecord) → IsTile bytes tile → PassesLayers more tile)

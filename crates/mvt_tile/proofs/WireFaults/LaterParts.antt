@@ -1,5 +1,5 @@
 -- Where the parts of a message lie that come after those of a front of its fields.
-use Rattle.std.proofs.Common.{◌≡◌, ℕ, suc, zero, ◌+◌, ◌-◌, ◌<◌, ◌≤◌, ◌==◌, ◌⊎◌, inl, inr, List, [], ◌∷◌, ◌++◌, length, filter_map, slice_get, Some, refl, ◌∙◌, ap, subst, arith}
+use Rattle.std.proofs.Common.{◌≡◌, ℕ, suc, zero, ◌+◌, ◌-◌, ◌<◌, ◌≤◌, ◌==◌, ◌⊎◌, inl, inr, List, [], ◌∷◌, ◌++◌, length, filter_map, slice_get, Some, refl, sym, ◌∙◌, ap, subst, arith}
 use Rattle.std.proofs.lemmas.Bool.{cases_Bool}
 use Rattle.std.proofs.lemmas.List.Edits.{length-between}
 use Rattle.mvt_wire.specs.Field.{Content, varint, eight_bytes, delimited, four_bytes, Entry, IsField, IsPayload}
@@ -78,14 +78,54 @@ in_one_of [] ys i x here = inr (i, here)
 in_one_of (first ∷ xs) ys zero x here = inl here
 in_one_of (first ∷ xs) ys (suc i) x here = in_one_of xs ys i x here
 
--- a part of a whole message is one of those that were passed, or lies after them
-pub passed_or_later : (bytes : List ℕ) (from at field_number : ℕ) (front whole : List Entry) → FieldList bytes from front at → IsMessage bytes from whole → (ordinal : ℕ) (span : Span) → slice_get (spans_of field_number whole) ordinal ≡ Some span
-    → (slice_get (spans_of field_number front) ordinal ≡ Some span) ⊎ LiesAfter at (length bytes) span
-passed_or_later bytes from at field_number front whole passed is_whole ordinal span here =
-    let all = longest_whole bytes from at whole front is_whole passed in
-    let both : slice_get (spans_of field_number front ++ spans_of field_number all.0) ordinal ≡ Some span = subst (λ (spans : List Span). slice_get spans ordinal ≡ Some span) (ap (spans_of field_number) all.1 ∙ spans_of-append field_number front all.0) here in
-    let left : FieldList bytes at all.0 (length bytes) = rest_of_list bytes from at (length bytes) front all.0 (subst (λ (entries : List Entry). FieldList bytes from entries (length bytes)) all.1 is_whole) passed in
-    elim (in_one_of (spans_of field_number front) (spans_of field_number all.0) ordinal span both) [
-      | inl passed ↦ inl passed
-      | inr later ↦ inr (parts_after bytes at (length bytes) field_number all.0 left later.0 span later.1)
+-- a payload ends where its field does
+payload_end : (bytes : List ℕ) (from to : ℕ) (content : Content) (span : Span) → IsPayload bytes from to content → span_of content ≡ Some span → to ≤ span.to
+payload_end bytes from to (delimited start part) span payload there =
+    let forward = payload.1.forward in
+    let size : length part ≡ to - start = ap length payload.4 ∙ length-between bytes start to payload.3 in
+    let ends : start + length part ≡ span.to = cc in
+    let end : to ≡ start + payload.0 = payload.2 in
+    omega arith
+payload_end bytes from to content span payload there = absurd (cc)
+
+-- the parts that fields hold end with the first of these, or later
+parts_end : (bytes : List ℕ) (from to field_number : ℕ) (entries : List Entry) → FieldList bytes from entries to → (ordinal : ℕ) (span : Span) → slice_get (spans_of field_number entries) ordinal ≡ Some span
+    → (next : ℕ) (entry : Entry) → entry.at ≡ from → IsField bytes next entry → next ≤ span.to
+parts_end bytes from to field_number [] list ordinal span here next entry begins field = absurd (cc)
+parts_end bytes from to field_number (first ∷ entries) list ordinal span here next entry begins field =
+    let same = one_field bytes next list.1.0 entry first (begins ∙ sym list.0) field list.1.1 in
+    let end : next ≡ list.1.0 = same.0 in
+    let later = λ (other : ℕ) (there : slice_get (spans_of field_number entries) other ≡ Some span). let lies = parts_after bytes list.1.0 to field_number entries list.1.2 other span there in let ends : next ≤ span.to = omega (arith, lies.after, lies.forward) in ends in
+    elim (cases_Bool (first.number == field_number)) [
+      | inr other ↦ later ordinal (subst (λ (contents : List Content). slice_get (filter_map span_of contents) ordinal ≡ Some span) (contents_of-other field_number first entries other) here)
+      | inl own ↦ elim (first_or_other first.content (contents_of field_number entries) ordinal span (subst (λ (contents : List Content). slice_get (filter_map span_of contents) ordinal ≡ Some span) (contents_of-own field_number first entries own) here)) [
+        | inl its ↦ let ends = payload_end bytes list.1.1.key_end list.1.0 first.content span list.1.1.payload its in omega arith
+        | inr rest ↦ later rest.0 rest.1
+      ]
     ]
+
+module _ (bytes : List ℕ) (from at field_number : ℕ) (front whole : List Entry) (passed : FieldList bytes from front at) (is_whole : IsMessage bytes from whole) (ordinal : ℕ) (span : Span) (here : slice_get (spans_of field_number whole) ordinal ≡ Some span) where
+  -- a part of a whole message is one of those that were passed, or of the rest
+  passed_or_rest : (slice_get (spans_of field_number front) ordinal ≡ Some span) ⊎ ((rest : List Entry) × FieldList bytes at rest (length bytes) × ((other : ℕ) × (slice_get (spans_of field_number rest) other ≡ Some span)))
+  passed_or_rest =
+      let all = longest_whole bytes from at whole front is_whole passed in
+      let both : slice_get (spans_of field_number front ++ spans_of field_number all.0) ordinal ≡ Some span = subst (λ (spans : List Span). slice_get spans ordinal ≡ Some span) (ap (spans_of field_number) all.1 ∙ spans_of-append field_number front all.0) here in
+      let left : FieldList bytes at all.0 (length bytes) = rest_of_list bytes from at (length bytes) front all.0 (subst (λ (entries : List Entry). FieldList bytes from entries (length bytes)) all.1 is_whole) passed in
+      elim (in_one_of (spans_of field_number front) (spans_of field_number all.0) ordinal span both) [
+        | inl passed ↦ inl passed
+        | inr later ↦ inr (all.0, left, later)
+      ]
+
+  -- so it is one of those, or lies after them
+  pub passed_or_later : (slice_get (spans_of field_number front) ordinal ≡ Some span) ⊎ LiesAfter at (length bytes) span
+  passed_or_later = elim passed_or_rest [
+    | inl passed ↦ inl passed
+    | inr left ↦ inr (parts_after bytes at (length bytes) field_number left.0 left.1 left.2.0 span left.2.1)
+  ]
+
+  -- and then it ends with the next field, or later
+  pub passed_or_next : (next : ℕ) (entry : Entry) → entry.at ≡ at → IsField bytes next entry → (slice_get (spans_of field_number front) ordinal ≡ Some span) ⊎ (next ≤ span.to)
+  passed_or_next next entry begins field = elim passed_or_rest [
+    | inl passed ↦ inl passed
+    | inr left ↦ inr (parts_end bytes at (length bytes) field_number left.0 left.1 left.2.0 span left.2.1 next entry begins field)
+  ]

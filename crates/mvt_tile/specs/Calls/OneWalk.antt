@@ -4,14 +4,11 @@ use Rattle.mvt_wire.specs.Payload.{Span}
 use Rattle.mvt_rules.specs.Tile.{FeatureRecord, IsFeature, LayerRecord, IsLayer}
 use Rattle.mvt_rules.specs.Rules.{TagsBreak}
 use Rattle.mvt_fault.specs.declared.tag.TagCode.{TagCode}
-use Rattle.mvt_tile.specs.RuleFaults.{Breaks, Keeps, IsSoundFeature}
+use Rattle.mvt_tile.specs.RuleFaults.{Keeps, IsSoundFeature}
+use Rattle.mvt_tile.specs.Sound.{tells_none}
 use Rattle.mvt_tile.specs.Calls.FeatureRules.{AllSoundInLayer}
 use Rattle.mvt_tile.specs.Calls.RuleFaults.{IsLike}
 use Rattle.mvt_tile.specs.declared.rules.tags.TagNeeds.{TagNeeds}
-
--- a further rule of which no fault is told: what matters is which features keep it
-abbrev pub tells_none : Breaks
-tells_none feature_record layer feature fault = ⊥
 
 -- the tags of a feature have no fault in a layer that has what they need, and at most so many keys and values
 abbrev pub HasGoodTags : ℕ → TagNeeds → FeatureRecord → Type 0

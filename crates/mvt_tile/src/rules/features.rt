@@ -1,16 +1,20 @@
 //! The rules on a feature of a tile, which is read from its bytes.
-ghost use Rattle.std.specs.Prelude.{◌≡◌, ◌≤◌, ℕ, None, IfOk, IfNone, IfSome};
+ghost use Rattle.std.specs.Prelude.{◌≡◌, ◌<◌, ◌≤◌, ℕ, None, IfOk, IfNone, IfSome};
 ghost use Rattle.mvt_fault.specs.declared.fault.Fault.{Fault};
-ghost use Rattle.mvt_rules.specs.Tile.{FeatureRecord, LayerRecord};
+ghost use Rattle.mvt_rules.specs.Tile.{FeatureRecord, IsFeature, LayerRecord};
+ghost use Rattle.mvt_wire.specs.Embedded.{Holds, span_in};
 ghost use Rattle.mvt_tile.specs.Calls.FeatureRules.{FindsInFeature};
 ghost use Rattle.mvt_tile.specs.FeatureBytes.{Encodes};
 ghost use Rattle.mvt_tile.specs.FreeFaults.{IsLeastOr};
 ghost use Rattle.mvt_tile.specs.Calls.RuleFaults.{AreAfterTags, IsLike};
+ghost use Rattle.mvt_tile.specs.Sound.{IsSoundIn};
 
 use super::key_marks::KeyMarks;
 use super::tags::{TagNeeds, scan_tags};
 use crate::feature_bytes::FeatureBytes;
+use crate::seen::Seen;
 use mvt_fault::Fault;
+use mvt_wire::Part;
 use std::alloc::{AllocError, Global};
 
 /// What is required of each feature of a tile beyond its tags. A rule may change its state, to
@@ -64,6 +68,51 @@ impl FeatureBuffer {
             marks: KeyMarks::new(alloc),
         }
     }
+}
+
+/// The same of the feature that a part of the bytes holds, unless it ends in front of the offset that
+/// was seen, and so is sound.
+#[inline(always)]
+pub(crate) fn find_unless_seen<R: FeatureRule>(
+    rule: &mut R,
+    buffer: &mut FeatureBuffer,
+    needs: &mut TagNeeds,
+    keys: usize,
+    values: usize,
+    seen: Seen,
+    part: Part<'_>,
+    layer_index: usize,
+    feature_index: usize,
+    found: &mut Option<Fault>,
+) -> Result<(), AllocError>
+    requires stands { (feature_record : FeatureRecord) × Holds IsFeature part feature_record }
+    requires nothing { found.old ≡ None }
+    requires after_tags { AreAfterTags R.IsBroken }
+    requires sound { part.to < seen.to → IsSoundIn R.IsBroken R.IsKept part.bytes.now
+        (IsLike keys values seen.needs) layer_index feature_index (span_in part) }
+    ensures no_fewer_keys { needs.old.keys ≤ needs.new.keys }
+    ensures no_fewer_values { needs.old.values ≤ needs.new.values }
+    ensures finds { IfOk result (λ _. (layer_record : LayerRecord) (feature_record : FeatureRecord)
+        → Holds IsFeature part.entry feature_record → IsLike keys values needs.new layer_record
+        → FindsInFeature R.IsFree R.IsBroken R.IsKept layer_record feature_record layer_index feature_index
+        found.new) }
+{
+    if part.to < seen.to {
+        needs.add(seen.needs);
+        return Ok(());
+    }
+    let feature = FeatureBytes::new(part);
+    find_in_feature(
+        rule,
+        buffer,
+        needs,
+        keys,
+        values,
+        &feature,
+        layer_index,
+        feature_index,
+        found,
+    )
 }
 
 /// Stores the first fault of a feature in `found`, or a free one. It is None before and stays so where

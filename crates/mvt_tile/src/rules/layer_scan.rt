@@ -3,13 +3,14 @@
 ghost use Rattle.std.specs.Prelude.{◌≡◌, true, false, is_some, IfOk};
 ghost use Rattle.mvt_rules.specs.Tile.{LayerRecord, IsLayer};
 ghost use Rattle.mvt_tile.specs.Calls.FeatureRules.{FindsInLayer};
-ghost use Rattle.mvt_wire.specs.Embedded.{Holds};
+ghost use Rattle.mvt_wire.specs.Embedded.{Holds, span_in};
 ghost use Rattle.mvt_tile.specs.Calls.RuleFaults.{AreAfterTags, IsLike, IsSummary};
+ghost use Rattle.mvt_tile.specs.Sound.{AreSoundBefore, IsSoundTo};
 
-use super::features::{FeatureBuffer, FeatureRule, find_in_feature};
+use super::features::{FeatureBuffer, FeatureRule, find_unless_seen};
 use super::summary::{LayerSummary, add_field, empty_summary};
 use super::tags::TagNeeds;
-use crate::feature_bytes::FeatureBytes;
+use crate::seen::Seen;
 use mvt_fault::Fault;
 use mvt_wire::field_number::FEATURES;
 use mvt_wire::payload::payload_span;
@@ -32,16 +33,19 @@ pub(crate) struct LayerScan<'a> {
 /// none. The only error is that memory was refused.
 ///
 /// Its keys and values may come after its features, so tags are checked as if the layer had as many
-/// of both as it has bytes. Where they need more than it has, it is walked again.
+/// of both as it has bytes. Where they need more than it has, it is walked again. In front of the
+/// offset that was seen, its features aren't looked at, but in that second walk.
 pub(crate) fn find_in_layer<'a, R: FeatureRule>(
     part: Part<'a>,
     rule: &mut R,
     layer_index: usize,
+    seen: Seen,
     buffer: &mut FeatureBuffer,
     found: &mut Option<Fault>,
 ) -> Result<LayerSummary<'a>, AllocError>
     requires stands { (layer_record : LayerRecord) × Holds IsLayer part layer_record }
     requires after_tags { AreAfterTags R.IsBroken }
+    requires sound { IsSoundTo R.IsBroken R.IsKept part.bytes.now seen layer_index (span_in part) }
     ensures summary { IfOk result (λ summary. (layer_record : LayerRecord)
         → Holds IsLayer part.entry layer_record → IsSummary summary layer_record) }
     ensures kept { IfOk result (λ _. is_some found.old ≡ true → found.new ≡ found.old) }
@@ -49,9 +53,12 @@ pub(crate) fn find_in_layer<'a, R: FeatureRule>(
         → Holds IsLayer part.entry layer_record
         → FindsInLayer R.IsFree R.IsBroken R.IsKept layer_record layer_index found.new) }
 {
+    if part.to < seen.to {
+        return Ok(layer_summary(part));
+    }
     let before = found.is_some();
     let most = part.to - part.from;
-    let scan = scan_layer(part, rule, layer_index, most, most, buffer, found)?;
+    let scan = scan_layer(part, rule, layer_index, most, most, seen, buffer, found)?;
     if before {
         return Ok(scan.summary);
     }
@@ -60,7 +67,17 @@ pub(crate) fn find_in_layer<'a, R: FeatureRule>(
         return Ok(scan.summary);
     }
     *found = None;
-    scan_layer(part, rule, layer_index, keys, values, buffer, found)?;
+    let nothing = Seen::nothing();
+    scan_layer(
+        part,
+        rule,
+        layer_index,
+        keys,
+        values,
+        nothing,
+        buffer,
+        found,
+    )?;
     Ok(scan.summary)
 }
 
@@ -71,11 +88,14 @@ fn scan_layer<'a, R: FeatureRule>(
     layer_index: usize,
     keys: usize,
     values: usize,
+    seen: Seen,
     buffer: &mut FeatureBuffer,
     found: &mut Option<Fault>,
 ) -> Result<LayerScan<'a>, AllocError>
     requires stands { (layer_record : LayerRecord) × Holds IsLayer part layer_record }
     requires after_tags { AreAfterTags R.IsBroken }
+    requires sound { AreSoundBefore R.IsBroken R.IsKept part.bytes.now keys values seen layer_index
+        (span_in part) }
     ensures summary { IfOk result (λ scan. (layer_record : LayerRecord)
         → Holds IsLayer part.entry layer_record → IsSummary scan.summary layer_record) }
     ensures kept { IfOk result (λ _. is_some found.old ≡ true → found.new ≡ found.old) }
@@ -92,14 +112,14 @@ fn scan_layer<'a, R: FeatureRule>(
         if field.number == FEATURES && found.is_none() {
             let (from, to) = payload_span(field.body);
             let bytes = part.bytes;
-            let feature = FeatureBytes::new(Part { bytes, from, to });
-            find_in_feature(
+            find_unless_seen(
                 rule,
                 buffer,
                 &mut needs,
                 keys,
                 values,
-                &feature,
+                seen,
+                Part { bytes, from, to },
                 layer_index,
                 feature_index,
                 found,
@@ -108,4 +128,18 @@ fn scan_layer<'a, R: FeatureRule>(
         }
     }
     Ok(LayerScan { summary, needs })
+}
+
+/// The summary of the layer that a part of the bytes holds.
+fn layer_summary(part: Part<'_>) -> LayerSummary<'_>
+    requires { (layer_record : LayerRecord) × Holds IsLayer part layer_record }
+    ensures { (layer_record : LayerRecord) → Holds IsLayer part.entry layer_record
+        → IsSummary result layer_record }
+{
+    let mut summary = empty_summary();
+    let mut fields = Fields::new(part.bytes, part.from, part.to);
+    'walk: while let Some(field) = fields.next_usual(USUAL_KEYS) {
+        add_field(&mut summary, field);
+    }
+    summary
 }

@@ -50,7 +50,7 @@ impl EmbeddedCheck for MessageCheck {
 
     #[inline(always)]
     fn check(&self, part: Part<'_>, ordinal: usize) -> Option<(usize, WireCause)> {
-        if part.to <= self.passed {
+        if part.to < self.passed {
             return None;
         }
         // (the copies differ only in what the compiler knows of the message)

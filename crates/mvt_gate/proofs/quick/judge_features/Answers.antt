@@ -11,13 +11,16 @@ returns-in-Valid c = (rw c.in-Valid.is at c.in_ok-first_walk.ensures) Feature
 pub returns-in-Faulty : goal.returns-in-Faulty
 returns-in-Faulty c = of_least (least_of_wire Feature c.args.bytes.now c.in-Faulty.fault (rw c.in-Faulty.is at c.in_ok-first_walk.ensures))
 
-pub fault_of_features-requires : goal.fault_of_features-requires
-fault_of_features-requires c = is_tile c.args.bytes.now (rw c.in-Whole.is at c.in_ok-first_walk.ensures)
+pub fault_of_features-requires-clause-tile : goal.fault_of_features-requires-clause-tile
+fault_of_features-requires-clause-tile c = is_tile c.args.bytes.now (rw c.in-Whole.is at c.in_ok-first_walk.ensures).0
+
+pub fault_of_features-requires-clause-sound : goal.fault_of_features-requires-clause-sound
+fault_of_features-requires-clause-sound c = (rw c.in-Whole.is at c.in_ok-first_walk.ensures).1 Feature
 
 pub returns-in-None : goal.returns-in-None
 returns-in-None c =
-    valid_without_fault Feature c.args.bytes.now (rw c.in-Whole.is at c.in_ok-first_walk.ensures) (MatchOption-at_none _ _ c.in-None.is c.in_ok-fault_of_features.ensures.none)
+    valid_without_fault Feature c.args.bytes.now (rw c.in-Whole.is at c.in_ok-first_walk.ensures).0 (MatchOption-at_none _ _ c.in-None.is c.in_ok-fault_of_features.ensures.none)
 
 pub returns-in-Some : goal.returns-in-Some
 returns-in-Some c =
-    quick_of_tile Feature c.args.bytes.now c.in-Some.fault (rw c.in-Whole.is at c.in_ok-first_walk.ensures) (MatchOption-at_some _ _ _ c.in-Some.is c.in_ok-fault_of_features.ensures.found)
+    quick_of_tile Feature c.args.bytes.now c.in-Some.fault (rw c.in-Whole.is at c.in_ok-first_walk.ensures).0 (MatchOption-at_some _ _ _ c.in-Some.is c.in_ok-fault_of_features.ensures.found)

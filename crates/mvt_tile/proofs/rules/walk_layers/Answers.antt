@@ -2,7 +2,7 @@ use Rattle.std.proofs.Common.{refl, arith}
 use Rattle.mvt_rules.specs.Tile.{IsLayer}
 use Rattle.mvt_rules.specs.Parts.Fields.{FitsRule}
 use Rattle.mvt_wire.specs.declared.schema.Message.TheVariants as messages
-use Rattle.mvt_tile.proofs.WireFaults.CleanWalk.{CleanWalk-nothing, CleanWalk-other, CleanWalk-more}
+use Rattle.mvt_tile.proofs.WireFaults.CleanWalk.{CleanWalk-nothing, CleanWalk-next, CleanWalk-other, CleanWalk-more}
 use Rattle.mvt_tile.proofs.Reading.ReadingRules.{own_type}
 use Rattle.mvt_wire.proofs.Walking.{IsWalking-defectless, All-given}
 use Rattle.mvt_tile.proofs.WireFaults.EmbeddedSpans.{Embeds-given, LiesIn-given}
@@ -41,6 +41,12 @@ find_in_layer-requires-clause-stands over c =
     let there = c.requires.tile.1 in
     Embeds-given there.entries c.walk.invariant.layers.walking there.whole c.in-Some.ensures.field 3 (IsLayer c.args.bytes.now) c.requires.tile.0.layers there.layers
     _ c.if-field-eq-LAYERS.true c.payload_span-from.ensures
+
+pub find_in_layer-requires-clause-sound : goal.find_in_layer-requires-clause-sound
+find_in_layer-requires-clause-sound over c =
+    let there = c.requires.tile.1 in
+    c.requires.sound c.walk.layer_index _
+    (record { entries = there.entries; whole = there.whole; here = (CleanWalk-next c.walk.invariant.layers c.in-Some.ensures.field c.if-field-eq-LAYERS.true _ c.payload_span-from.ensures there.entries there.whole).here })
 
 pub returns-then-not-branch-clause-ends : goal.returns-then-not-branch-clause-ends
 returns-then-not-branch-clause-ends over c = λ tile is.

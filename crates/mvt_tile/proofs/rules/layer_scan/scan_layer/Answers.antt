@@ -1,11 +1,12 @@
-use Rattle.std.proofs.Common.{◌≡◌, true, false, is_some, Option, Some, None, MatchOption, List, [], refl, sym, ◌∙◌, ap, subst, arith}
+use Rattle.std.proofs.lemmas.Bool.{cases_Bool}
+use Rattle.std.proofs.Common.{inl, inr, ◌≡◌, true, false, is_some, Option, Some, None, MatchOption, List, [], refl, sym, ◌∙◌, ap, subst, arith}
 use Rattle.mvt_wire.specs.Field.{Entry}
+use Rattle.mvt_fault.specs.declared.fault.Fault.{Fault}
 use Rattle.mvt_rules.specs.Tile.{IsFeature}
 use Rattle.mvt_rules.specs.Parts.Fields.{FitsRule}
 use Rattle.mvt_wire.specs.declared.schema.Message.TheVariants as messages
-use Rattle.mvt_tile.specs.FeatureBytes.{Encodes}
 use Rattle.mvt_tile.specs.Calls.Reading.{GivesSummary}
-use Rattle.mvt_tile.proofs.WireFaults.CleanWalk.{CleanWalk-nothing}
+use Rattle.mvt_tile.proofs.WireFaults.CleanWalk.{CleanWalk-nothing, CleanWalk-next}
 use Rattle.mvt_tile.proofs.RuleFaults.FeatureScan.{IsScanned-other, IsScanned-more, IsScanned-finds}
 use Rattle.mvt_tile.proofs.Reading.ReadingRules.{own_type}
 use Rattle.mvt_wire.proofs.Walking.{IsWalking-none, IsWalking-defectless, IsWalking-over, All-given, IsWalking-more}
@@ -67,16 +68,36 @@ payload_span-from-requires-clause-below over c = λ span there.
     let inside = LiesIn-given c.args.part.bytes.now c.args.part.to c.walk.invariant.walking c.in-Some.ensures.field span there in
     omega (arith, inside.1, c.args.part.within)
 
-pub invariant_of-new : goal.invariant_of-new
-invariant_of-new over c =
+pub invariant_of-find_unless_seen : goal.invariant_of-find_unless_seen
+invariant_of-find_unless_seen over c =
     let inside = LiesIn-given c.args.part.bytes.now c.args.part.to c.walk.invariant.walking c.in-Some.ensures.field _ c.payload_span-from.ensures in
     record { forward = inside.0; within = inside.1 }
 
-pub new-feature-requires : goal.new-feature-requires
-new-feature-requires over c =
+pub find_unless_seen-requires-clause-stands : goal.find_unless_seen-requires-clause-stands
+find_unless_seen-requires-clause-stands over c =
     let there = c.requires.stands.1 in
     Embeds-given there.entries c.walk.invariant.walking there.whole c.in-Some.ensures.field 2 (IsFeature c.args.part.bytes.now) c.requires.stands.0.features there.features
     _ c.if-field-eq-FEATURES.true c.payload_span-from.ensures
+
+-- nothing was found before
+none_before : (before found : Option Fault) → (is_some before ≡ true → found ≡ before) → is_some found ≡ false → is_some before ≡ false
+none_before before found kept none = elim (cases_Bool (is_some before)) [
+  | inl some ↦ let both : true ≡ false = sym some ∙ ap is_some (sym (kept some)) ∙ none in absurd (cc)
+  | inr nothing ↦ nothing
+]
+
+pub find_unless_seen-requires-clause-sound : goal.find_unless_seen-requires-clause-sound
+find_unless_seen-requires-clause-sound over c = λ ends.
+    let there = c.requires.stands.1 in
+    let so_far = c.walk.invariant in
+    let none = none_before c.args.found.now c.walk.found so_far.kept c.if-is_none.ensures in
+    c.requires.sound c.walk.feature_index _
+    (record {
+      entries = there.entries;
+      whole = there.whole;
+      here = (CleanWalk-next (nothing_found _ c.walk.found c.if-is_none.ensures (so_far.features none).first) c.in-Some.ensures.field c.if-field-eq-FEATURES.true _ c.payload_span-from.ensures there.entries there.whole).here;
+    })
+    ends
 
 pub walk-preserved-then-is_none : goal.walk-preserved-then-is_none
 walk-preserved-then-is_none over c =
@@ -89,8 +110,8 @@ walk-preserved-then-is_none over c =
       kept = λ some. let both : true ≡ false = sym some ∙ ap is_some (sym (so_far.kept some)) ∙ c.if-is_none.ensures in absurd (cc);
       features = λ none.
           IsScanned-more (nothing_found _ c.walk.found c.if-is_none.ensures (so_far.features none).first) given c.if-field-eq-FEATURES.true _ c.payload_span-from.ensures
-          c.find_in_feature.new.needs c.find_in_feature.ensures.no_fewer_keys c.find_in_feature.ensures.no_fewer_values
-          c.requires.after_tags (Encodes c.new-feature.result) c.new-feature.ensures c.find_in_feature.new.found (λ layer_record it encodes like. c.in_ok-find_in_feature.ensures.finds layer_record it encodes like);
+          c.find_unless_seen.new.needs c.find_unless_seen.ensures.no_fewer_keys c.find_unless_seen.ensures.no_fewer_values
+          c.requires.after_tags _ (λ it is. is) c.find_unless_seen.new.found (λ layer_record it is like. c.in_ok-find_unless_seen.ensures.finds layer_record it is like);
       few = omega (arith, given.further, so_far.few);
     }
 

@@ -1,7 +1,7 @@
 use Rattle.std.proofs.Common.{refl, arith}
 use Rattle.mvt_wire.specs.declared.schema.Message.TheVariants.{Layer}
 use Rattle.mvt_wire.proofs.Encoding.Payloads.{LiesIn-field}
-use Rattle.mvt_tile.proofs.OneWalk.Layers.{fits_next, room_next, passed_unchanged, passes_other, passes_value, passes_feature, parts_passed, faultless_layer, summary_passed, passes_layer}
+use Rattle.mvt_tile.proofs.OneWalk.Layers.{fits_next, room_next, passed_unchanged, passes_other, passes_value, passes_feature, place_here, place_next, next_inside, begun, next_begun, parts_passed, front_sound, faultless_layer, summary_passed, passes_layer}
 use Rattle.mvt_tile.proofs.Reading.ReadingRules.{own_type}
 use Rattle.mvt_tile.proofs.walk.layer.walk_layer.Goals as goal
 
@@ -74,13 +74,51 @@ returns-clause-rules over c =
     passes_layer (over.T.FeatureTest.IsKept c.walk.test) part.bytes.now part.from part.to part.forward part.within c.if-at-part.false c.walk.invariant.0 (omega (arith, c.if-needs-summary.false)) (omega (arith, c.if-needs-summary-2.false))
 
 pub returns-then-not-branch-clause-passed : goal.returns-then-not-branch-clause-passed
-returns-then-not-branch-clause-passed over c = parts_passed c.walk.invariant.0
+returns-then-not-branch-clause-passed over c = parts_passed c.walk.invariant.0 c.in-Some.next (place_next c.walk.invariant.0 c.in-Some.ensures.passed)
+
+pub returns-then-not-branch-clause-begun : goal.returns-then-not-branch-clause-begun
+returns-then-not-branch-clause-begun over c = next_begun c.walk.invariant.0 c.in-Some.ensures.passed
+
+pub returns-then-not-branch-clause-inside : goal.returns-then-not-branch-clause-inside
+returns-then-not-branch-clause-inside over c = next_inside c.walk.invariant.0 c.args.part.within c.in-Some.ensures.passed
 
 pub returns-then-not-is_one_field-clause-passed : goal.returns-then-not-is_one_field-clause-passed
-returns-then-not-is_one_field-clause-passed over c = parts_passed c.walk.invariant.0
+returns-then-not-is_one_field-clause-passed over c = parts_passed c.walk.invariant.0 c.in-Some.next (place_next c.walk.invariant.0 c.in-Some.ensures.passed)
+
+pub returns-then-not-is_one_field-clause-begun : goal.returns-then-not-is_one_field-clause-begun
+returns-then-not-is_one_field-clause-begun over c = next_begun c.walk.invariant.0 c.in-Some.ensures.passed
+
+pub returns-then-not-is_one_field-clause-inside : goal.returns-then-not-is_one_field-clause-inside
+returns-then-not-is_one_field-clause-inside over c = next_inside c.walk.invariant.0 c.args.part.within c.in-Some.ensures.passed
+
+pub returns-then-not-branch-clause-still : goal.returns-then-not-branch-clause-still
+returns-then-not-branch-clause-still over c = λ it kept. c.passes_feature.ensures.still it (c.walk.invariant.1 it kept)
+
+pub returns-then-not-branch-clause-sound : goal.returns-then-not-branch-clause-sound
+returns-then-not-branch-clause-sound over c =
+    front_sound c.walk.invariant.0 c.in-Some.next (place_next c.walk.invariant.0 c.in-Some.ensures.passed)
+    (over.T.FeatureTest.IsKept c.passes_feature.new.test) c.passes_feature.ensures.still c.passes_feature.new.needs c.passes_feature.ensures.no_fewer_keys c.passes_feature.ensures.no_fewer_values
+
+pub returns-then-not-is_one_field-clause-sound : goal.returns-then-not-is_one_field-clause-sound
+returns-then-not-is_one_field-clause-sound over c =
+    front_sound c.walk.invariant.0 c.in-Some.next (place_next c.walk.invariant.0 c.in-Some.ensures.passed) (over.T.FeatureTest.IsKept c.walk.test) (λ it kept. kept) c.walk.needs (omega arith) (omega arith)
 
 pub returns-then-at-part-clause-passed : goal.returns-then-at-part-clause-passed
-returns-then-at-part-clause-passed over c = parts_passed c.walk.invariant.0
+returns-then-at-part-clause-passed over c = parts_passed c.walk.invariant.0 c.walk.at (place_here c.walk.invariant.0)
+
+pub returns-then-at-part-clause-begun : goal.returns-then-at-part-clause-begun
+returns-then-at-part-clause-begun over c = begun c.walk.invariant.0
+
+pub returns-then-at-part-clause-sound : goal.returns-then-at-part-clause-sound
+returns-then-at-part-clause-sound over c =
+    front_sound c.walk.invariant.0 c.walk.at (place_here c.walk.invariant.0) (over.T.FeatureTest.IsKept c.walk.test) (λ it kept. kept) c.walk.needs (omega arith) (omega arith)
 
 pub returns-then-needs-summary-clause-passed : goal.returns-then-needs-summary-clause-passed
-returns-then-needs-summary-clause-passed over c = parts_passed c.walk.invariant.0
+returns-then-needs-summary-clause-passed over c = parts_passed c.walk.invariant.0 c.walk.at (place_here c.walk.invariant.0)
+
+pub returns-then-needs-summary-clause-begun : goal.returns-then-needs-summary-clause-begun
+returns-then-needs-summary-clause-begun over c = begun c.walk.invariant.0
+
+pub returns-then-needs-summary-clause-sound : goal.returns-then-needs-summary-clause-sound
+returns-then-needs-summary-clause-sound over c =
+    front_sound c.walk.invariant.0 c.walk.at (place_here c.walk.invariant.0) (over.T.FeatureTest.IsKept c.walk.test) (λ it kept. kept) c.walk.needs (omega arith) (omega arith)

@@ -1,0 +1,26 @@
+//! How far a walk over a tile has come.
+ghost use Rattle.std.specs.Prelude.{◌≡◌};
+
+use crate::rules::TagNeeds;
+
+/// How far one walk over a tile has come, where it doesn't say that the tile is right.
+#[derive(Clone, Copy)]
+pub struct Seen {
+    /// Nothing is wrong in front of this offset.
+    pub to: usize,
+    /// How many keys and values the layer at the offset must have, so that its features in front of it
+    /// have those that their tags name.
+    pub(crate) needs: TagNeeds,
+}
+
+impl Seen {
+    /// The walk has seen nothing.
+    pub fn nothing() -> Seen
+        ensures { result.to ≡ 0 }
+    {
+        Seen {
+            to: 0,
+            needs: TagNeeds::none(),
+        }
+    }
+}
