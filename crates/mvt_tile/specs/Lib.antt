@@ -1,5 +1,6 @@
 pub mod Advice
 pub mod Calls
+pub mod Enough
 pub mod FeatureBytes
 pub mod FirstFaults
 pub mod FreeFaults

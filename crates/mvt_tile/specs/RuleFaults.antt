@@ -1,5 +1,5 @@
 -- The rules between a tile's parts, and a further one on its features.
-use Rattle.std.specs.Prelude.{◌≡◌, ℕ, ◌≤◌, ◌⊎◌, List, ◌∷◌}
+use Rattle.std.specs.Prelude.{◌≡◌, ℕ, ◌≤◌, ◌⊎◌, List, ◌∷◌, Some, slice_get}
 use Rattle.mvt_rules.specs.Parts.TrueFaults.{BreaksRule, FeatureFaultRelation, IsFaultOfTags, OneFeatureHas}
 use Rattle.mvt_fault.specs.declared.fault.Fault.{Fault}
 use Rattle.mvt_rules.specs.Rules.{IsFeatureOf}
@@ -38,3 +38,7 @@ IsFaultOfFeature IsBroken layer_record feature_record layer feature fault = IsFa
 pub record IsSoundFeature (IsBroken : Breaks) (IsKept : Keeps) (layer_record : LayerRecord) (feature_record : FeatureRecord) (layer feature : ℕ) : Type 0 where
   pub faultless : (fault : Fault) → ¬ IsFaultOfFeature IsBroken layer_record feature_record layer feature fault
   pub kept : IsKept feature_record
+
+-- each feature of the layer with an ordinal is sound
+abbrev pub AllSoundInLayer : Breaks → Keeps → LayerRecord → ℕ → Type 0
+AllSoundInLayer IsBroken IsKept layer_record layer = (feature : ℕ) (feature_record : FeatureRecord) → slice_get layer_record.features feature ≡ Some feature_record → IsSoundFeature IsBroken IsKept layer_record feature_record layer feature

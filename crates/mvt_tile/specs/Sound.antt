@@ -3,9 +3,8 @@ use Rattle.std.specs.Prelude.{◌≡◌, ℕ, ◌-◌, ◌<◌, ◌≤◌, List}
 use Rattle.mvt_wire.specs.Payload.{Span}
 use Rattle.mvt_rules.specs.Scope.{whole_span, IsPart}
 use Rattle.mvt_rules.specs.Tile.{FeatureRecord, IsFeature, LayerRecord, IsLayer}
-use Rattle.mvt_tile.specs.RuleFaults.{Breaks, Keeps, IsSoundFeature}
-use Rattle.mvt_tile.specs.Calls.FeatureRules.{AllSoundInLayer}
-use Rattle.mvt_tile.specs.Calls.RuleFaults.{IsLike}
+use Rattle.mvt_tile.specs.RuleFaults.{Breaks, Keeps, IsSoundFeature, AllSoundInLayer}
+use Rattle.mvt_tile.specs.Enough.{IsLike}
 use Rattle.mvt_tile.specs.declared.seen.Seen.{Seen}
 
 -- a further rule of which no fault is told: what matters is which features keep it

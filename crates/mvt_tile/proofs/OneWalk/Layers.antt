@@ -25,7 +25,8 @@ use Rattle.mvt_tile.specs.Calls.OneWalk.{PassesFeature, PassesLayer}
 use Rattle.mvt_tile.specs.Sound.{AreSoundBefore, tells_none}
 use Rattle.mvt_tile.specs.Calls.Passed.{ArePassed, ArePartsPassed}
 use Rattle.mvt_tile.specs.Calls.Reading.{GivesSummary}
-use Rattle.mvt_tile.specs.Calls.RuleFaults.{AreAfterTags, IsLike, IsSummary}
+use Rattle.mvt_tile.specs.Calls.RuleFaults.{AreAfterTags, IsSummary}
+use Rattle.mvt_tile.specs.Enough.{IsLike}
 use Rattle.mvt_tile.specs.declared.rules.summary.LayerSummary.{LayerSummary}
 use Rattle.mvt_tile.specs.declared.rules.tags.TagNeeds.{TagNeeds}
 use Rattle.mvt_tile.specs.declared.wire.scan.FieldScan.{FieldScan}

@@ -14,10 +14,11 @@ use Rattle.mvt_fault.specs.declared.tag.TagCode.{TagCode}
 use Rattle.mvt_fault.specs.declared.tag.TagCode.TheVariants.{OddLength, NoKey, NoValue, Repeated}
 use Rattle.mvt_rules.proofs.Tiles.PairedLists.{each_here, each_there}
 use Rattle.mvt_tile.specs.FreeFaults.{IsLeastOr}
-use Rattle.mvt_tile.specs.RuleFaults.{Breaks, Frees, Keeps, IsAfterTags, IsFaultOfFeature, IsSoundFeature}
-use Rattle.mvt_tile.specs.Calls.FeatureRules.{IsFaultInLayer, AllSoundInLayer, AllSound, FindsInFeature}
+use Rattle.mvt_tile.specs.RuleFaults.{Breaks, Frees, Keeps, IsAfterTags, IsFaultOfFeature, IsSoundFeature, AllSoundInLayer}
+use Rattle.mvt_tile.specs.Calls.FeatureRules.{IsFaultInLayer, AllSound, FindsInFeature}
 use Rattle.mvt_wire.specs.Embedded.{AreClean}
-use Rattle.mvt_tile.specs.Calls.RuleFaults.{AreAfterTags, IsFirstTagFault, IsLike}
+use Rattle.mvt_tile.specs.Calls.RuleFaults.{AreAfterTags, IsFirstTagFault}
+use Rattle.mvt_tile.specs.Enough.{IsLike}
 use Rattle.mvt_tile.specs.Calls.PassedTags.{AreMetBy}
 use Rattle.mvt_tile.specs.declared.rules.tags.TagNeeds.{TagNeeds}
 use Rattle.mvt_tile.proofs.WireFaults.CleanWalk.{IsNext}

@@ -10,7 +10,8 @@ use Rattle.mvt_tile.specs.FreeFaults.{IsLeastOr}
 use Rattle.mvt_tile.specs.RuleFaults.{Breaks, Frees, Keeps}
 use Rattle.mvt_tile.specs.Calls.FeatureRules.{IsFaultInLayer, FindsInFeature, FindsInLayer}
 use Rattle.mvt_tile.specs.Calls.Reading.{GivesSummary}
-use Rattle.mvt_tile.specs.Calls.RuleFaults.{AreAfterTags, IsLike, IsSummary}
+use Rattle.mvt_tile.specs.Calls.RuleFaults.{AreAfterTags, IsSummary}
+use Rattle.mvt_tile.specs.Enough.{IsLike}
 use Rattle.mvt_tile.specs.declared.rules.summary.LayerSummary.{LayerSummary}
 use Rattle.mvt_tile.specs.declared.rules.tags.TagNeeds.{TagNeeds}
 use Rattle.mvt_tile.proofs.WireFaults.CleanWalk.{CleanWalk, CleanWalk-weaker, CleanWalk-other, CleanWalk-more, CleanWalk-next, CleanWalk-over}

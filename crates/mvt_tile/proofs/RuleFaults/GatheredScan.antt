@@ -13,7 +13,8 @@ use Rattle.mvt_tile.specs.RuleFaults.{Breaks, Frees, Keeps}
 use Rattle.mvt_tile.specs.Calls.FeatureRules.{FindsInFeature}
 use Rattle.mvt_tile.specs.Calls.Gathered.{AreGatheredTo}
 use Rattle.mvt_tile.specs.Calls.Reading.{GivesSummary}
-use Rattle.mvt_tile.specs.Calls.RuleFaults.{AreAfterTags, IsLike, IsSummary}
+use Rattle.mvt_tile.specs.Calls.RuleFaults.{AreAfterTags, IsSummary}
+use Rattle.mvt_tile.specs.Enough.{IsLike}
 use Rattle.mvt_tile.specs.declared.rules.summary.LayerSummary.{LayerSummary}
 use Rattle.mvt_tile.specs.declared.rules.tags.TagNeeds.{TagNeeds}
 use Rattle.mvt_tile.proofs.RuleFaults.FeatureScan.{fewer}

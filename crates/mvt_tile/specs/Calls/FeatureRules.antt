@@ -5,7 +5,7 @@ use Rattle.mvt_fault.specs.declared.fault.Fault.{Fault}
 use Rattle.mvt_rules.specs.Rules.{IsFeatureOf}
 use Rattle.mvt_rules.specs.Tile.{FeatureRecord, LayerRecord, TileRecord}
 use Rattle.mvt_tile.specs.FreeFaults.{IsLeastOr}
-use Rattle.mvt_tile.specs.RuleFaults.{Breaks, Frees, Keeps, IsFaultOfFeature, IsSoundFeature}
+use Rattle.mvt_tile.specs.RuleFaults.{Breaks, Frees, Keeps, AllSoundInLayer, IsFaultOfFeature, IsSoundFeature}
 
 -- one of the features of the layer with an ordinal has this fault
 pub record IsFaultInLayer (IsBroken : Breaks) (layer_record : LayerRecord) (layer : ℕ) (fault : Fault) : Type 0 where
@@ -14,11 +14,7 @@ pub record IsFaultInLayer (IsBroken : Breaks) (layer_record : LayerRecord) (laye
   pub there : slice_get layer_record.features feature ≡ Some feature_record
   pub broken : IsFaultOfFeature IsBroken layer_record feature_record layer feature fault
 
--- each feature of the layer with an ordinal is sound
-abbrev pub AllSoundInLayer : Breaks → Keeps → LayerRecord → ℕ → Type 0
-AllSoundInLayer IsBroken IsKept layer_record layer = (feature : ℕ) (feature_record : FeatureRecord) → slice_get layer_record.features feature ≡ Some feature_record → IsSoundFeature IsBroken IsKept layer_record feature_record layer feature
-
--- and so is each feature of the tile
+-- each feature of the tile is sound
 abbrev pub AllSound : Breaks → Keeps → TileRecord → Type 0
 AllSound IsBroken IsKept tile =
     (layer feature : ℕ) (layer_record : LayerRecord) (feature_record : FeatureRecord) → IsFeatureOf tile layer feature layer_record feature_record → IsSoundFeature IsBroken IsKept layer_record feature_record layer feature

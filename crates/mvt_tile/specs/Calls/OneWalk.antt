@@ -4,10 +4,9 @@ use Rattle.mvt_wire.specs.Payload.{Span}
 use Rattle.mvt_rules.specs.Tile.{FeatureRecord, IsFeature, LayerRecord, IsLayer}
 use Rattle.mvt_rules.specs.Rules.{TagsBreak}
 use Rattle.mvt_fault.specs.declared.tag.TagCode.{TagCode}
-use Rattle.mvt_tile.specs.RuleFaults.{Keeps, IsSoundFeature}
+use Rattle.mvt_tile.specs.RuleFaults.{Keeps, IsSoundFeature, AllSoundInLayer}
 use Rattle.mvt_tile.specs.Sound.{tells_none}
-use Rattle.mvt_tile.specs.Calls.FeatureRules.{AllSoundInLayer}
-use Rattle.mvt_tile.specs.Calls.RuleFaults.{IsLike}
+use Rattle.mvt_tile.specs.Enough.{IsLike}
 use Rattle.mvt_tile.specs.declared.rules.tags.TagNeeds.{TagNeeds}
 
 -- the tags of a feature have no fault in a layer that has what they need, and at most so many keys and values

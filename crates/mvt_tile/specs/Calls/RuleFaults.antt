@@ -17,15 +17,6 @@ pub record IsSummary (summary : LayerSummary) (layer : LayerRecord) : Type 0 whe
   pub keys : summary.keys ≡ length layer.keys
   pub values : summary.values ≡ length layer.values
 
--- the layer has as many keys and values as tags need
-pub record HasEnough (needs : TagNeeds) (layer : LayerRecord) : Type 0 where
-  pub keys : needs.keys ≤ length layer.keys
-  pub values : needs.values ≤ length layer.values
-
--- the layer has so many keys and values, or as many as tags need, as has one of so many
-abbrev pub IsLike : ℕ → ℕ → TagNeeds → LayerRecord → Type 0
-IsLike keys values needs layer = ((keys ≡ length layer.keys) × (values ≡ length layer.values)) ⊎ (HasEnough needs layer × (needs.keys ≤ keys) × (needs.values ≤ values))
-
 -- of the faults of tags, the one at the first place, and there the one of least code
 pub record IsFirstTagFault (keys values : ℕ) (tags : List ℕ) (code : TagCode) (place : ℕ) : Type 0 where
   pub broken : TagsBreak code keys values tags place

@@ -5,7 +5,8 @@ ghost use Rattle.mvt_fault.specs.declared.fault.Fault.{Fault};
 ghost use Rattle.mvt_wire.specs.Embedded.{Holds};
 ghost use Rattle.mvt_rules.specs.Tile.{LayerRecord, IsLayer, TileRecord};
 ghost use Rattle.mvt_tile.specs.Calls.Gathered.{AreGatheredTo};
-ghost use Rattle.mvt_tile.specs.Calls.RuleFaults.{AreAfterTags, IsLike, IsSummary};
+ghost use Rattle.mvt_tile.specs.Calls.RuleFaults.{AreAfterTags, IsSummary};
+ghost use Rattle.mvt_tile.specs.Enough.{IsLike};
 
 use super::features::{FeatureBuffer, FeatureRule, find_in_feature};
 use super::layer_scan::{LayerScan, USUAL_KEYS};

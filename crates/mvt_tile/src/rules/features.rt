@@ -6,7 +6,8 @@ ghost use Rattle.mvt_wire.specs.Embedded.{Holds, span_in};
 ghost use Rattle.mvt_tile.specs.Calls.FeatureRules.{FindsInFeature};
 ghost use Rattle.mvt_tile.specs.FeatureBytes.{Encodes};
 ghost use Rattle.mvt_tile.specs.FreeFaults.{IsLeastOr};
-ghost use Rattle.mvt_tile.specs.Calls.RuleFaults.{AreAfterTags, IsLike};
+ghost use Rattle.mvt_tile.specs.Calls.RuleFaults.{AreAfterTags};
+ghost use Rattle.mvt_tile.specs.Enough.{IsLike};
 ghost use Rattle.mvt_tile.specs.Sound.{IsSoundIn};
 
 use super::key_marks::KeyMarks;

@@ -4,7 +4,8 @@ ghost use Rattle.std.specs.Prelude.{◌≡◌, true, false, is_some, IfOk};
 ghost use Rattle.mvt_rules.specs.Tile.{LayerRecord, IsLayer};
 ghost use Rattle.mvt_tile.specs.Calls.FeatureRules.{FindsInLayer};
 ghost use Rattle.mvt_wire.specs.Embedded.{Holds, span_in};
-ghost use Rattle.mvt_tile.specs.Calls.RuleFaults.{AreAfterTags, IsLike, IsSummary};
+ghost use Rattle.mvt_tile.specs.Calls.RuleFaults.{AreAfterTags, IsSummary};
+ghost use Rattle.mvt_tile.specs.Enough.{IsLike};
 ghost use Rattle.mvt_tile.specs.Sound.{AreSoundBefore, IsSoundTo};
 
 use super::features::{FeatureBuffer, FeatureRule, find_unless_seen};

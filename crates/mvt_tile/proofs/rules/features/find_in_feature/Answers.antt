@@ -1,7 +1,7 @@
 use Rattle.std.proofs.Common.{length}
 use Rattle.mvt_tile.specs.FeatureBytes.{Encodes}
 use Rattle.mvt_tile.specs.FreeFaults.{of_least}
-use Rattle.mvt_tile.specs.Calls.RuleFaults.{IsLike}
+use Rattle.mvt_tile.specs.Enough.{IsLike}
 use Rattle.mvt_tile.proofs.RuleFaults.FeatureFaults.{HasSameTagFaults-like, rule_decides, tags_decide}
 use Rattle.mvt_tile.proofs.RuleFaults.TagFaults.{no_tags}
 use Rattle.mvt_tile.proofs.rules.features.find_in_feature.Goals as goal
