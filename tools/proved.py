@@ -2,7 +2,7 @@
 """Which libraries are proved as their crates stand. They lie in out/proved, where `rt` doesn't look, with the sum of what they were
 made from: they hold statements and no proofs, and fit the libraries that they were made over alone.
 
-usage: proved.py sums    a line for each crate: its name and its sum
+usage: proved.py sums    a line for each crate for which `rt` has no library: its name and its sum
        proved.py gate    takes over what .ci/gate left, with the lines of `proved.py sums` from before it on standard input
 """
 import functools
@@ -51,10 +51,6 @@ def note(crate: str, total: str) -> None:
     (CRATES / crate / PROVED / SUM).write_text(f"{total}\n", encoding="ascii")
 
 
-def forget(crate: str) -> None:
-    (CRATES / crate / PROVED / SUM).unlink(missing_ok=True)
-
-
 def is_noted(crate: str) -> bool:
     """Whether a library was made from the crate as it is now."""
     try:
@@ -68,10 +64,15 @@ def is_proved(crate: str) -> bool:
     return all(is_noted(it) for it in within(crate))
 
 
+def made_by_rt(crate: str) -> pathlib.Path:
+    """Where `rt` makes a crate's library. What is there before the gate runs it puts back afterwards, even what a gate left that failed."""
+    return CRATES / crate / "out/rlib"
+
+
 def take_over(lines: list[str]) -> None:
-    """Takes over the libraries that the gate made. Those that an earlier run made have a stamp: `rt` put them back."""
+    """Takes over the libraries that the gate made. (One with a stamp is of another run.)"""
     for crate, total in (it.split() for it in lines):
-        made, to = CRATES / crate / "out/rlib", CRATES / crate / PROVED
+        made, to = made_by_rt(crate), CRATES / crate / PROVED
         if made.is_dir() and not (made / "stamp").exists() and total == sum_of(crate):
             shutil.rmtree(to, ignore_errors=True)
             made.rename(to)
@@ -80,7 +81,7 @@ def take_over(lines: list[str]) -> None:
 
 if __name__ == "__main__":
     if sys.argv[1:] == ["sums"]:
-        sys.stdout.writelines(f"{it} {sum_of(it)}\n" for it in listed())
+        sys.stdout.writelines(f"{it} {sum_of(it)}\n" for it in listed() if not made_by_rt(it).exists())
     elif sys.argv[1:] == ["gate"]:
         take_over(sys.stdin.read().splitlines())
     else:
