@@ -26,6 +26,16 @@ pub(crate) struct Judged {
     pub(crate) right: Vec<bool>,
 }
 
+impl Judged {
+    /// Whether the first ring is an exterior.
+    pub(crate) fn begin_at_once(&self) -> bool {
+        match self.polygons.first() {
+            Some((exterior, _)) => *exterior == 0,
+            None => false,
+        }
+    }
+}
+
 /// Judges the polygons of the rings one by one. `known` are edges that may meet wrongly, if such are
 /// known: where they do, no others are looked for in their polygon. The only error is that memory was
 /// refused.

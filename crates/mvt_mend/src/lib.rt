@@ -10,4 +10,4 @@ mod near;
 
 pub use loose::loose_rings;
 pub use mending::{MendedRings, mend_rings};
-pub use mvt_overlay::Work;
+pub use mvt_segments::Work;

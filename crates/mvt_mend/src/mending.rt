@@ -13,15 +13,13 @@ mod old;
 mod proposal;
 mod segments;
 mod starts;
-#[cfg(test)]
-mod tests;
 
 use crate::kept::{Judged, are_kept, begin_with_hole, judge};
 use crate::near::are_near;
 use crate::near::edges::OldEdges;
 use mvt_fault::Profile;
-use mvt_overlay::Work;
 use mvt_plane::Point;
+use mvt_segments::Work;
 use mvt_sweep::Meeting;
 use old::Old;
 use proposal::{Proposal, propose};
@@ -130,7 +128,11 @@ fn keeps_right(
     ensures { IfOk result (λ keeps. IsTrue keeps → profile ≡ Polygon
         → BeginWithExterior (rings_of old.now) → AreKept (rings_of old.now) (rings_of new.now)) }
 {
-    if profile == Profile::Feature || begin_with_hole(old) {
+    if profile == Profile::Feature {
+        return Ok(true);
+    }
+    // (mostly the first ring is an exterior, and no area has to be looked at once more)
+    if !judged.begin_at_once() && begin_with_hole(old) {
         return Ok(true);
     }
     are_kept(alloc, old, judged, new)

@@ -10,8 +10,8 @@ pub(crate) mod edges;
 
 use crate::near::edges::OldEdges;
 use close::is_close_to_edge;
-use mvt_overlay::Work;
 use mvt_plane::{Edge, Point};
+use mvt_segments::Work;
 
 /// Whether each vertex of the new rings is near the old ones: within two units, along each axis, of
 /// a point of an edge. `edges` are those of the old rings; `witnesses` has, vertex by vertex of the

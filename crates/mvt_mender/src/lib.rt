@@ -12,8 +12,6 @@ mod mending;
 mod place;
 mod report;
 mod stream;
-#[cfg(test)]
-mod tests;
 
 pub use measures::Measures;
 pub use mending::{

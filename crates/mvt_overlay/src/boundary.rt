@@ -7,11 +7,11 @@ mod merging;
 mod rings;
 mod successors;
 
-use crate::segment::{HalfEdge, Keyed};
 use links::links_of;
 pub(crate) use links::{Links, Spoke, Touch, links_after};
 pub(crate) use merging::{Renumbered, merged};
 use mvt_plane::{Point, sweep_key};
+use mvt_segments::{HalfEdge, Keyed};
 pub(crate) use rings::{BoundaryRing, Traced, add_outlines, trace};
 use std::alloc::{AllocError, Global};
 
@@ -29,8 +29,10 @@ impl Boundary {
     /// That of these edges, which are in their order. None where they are no boundary. The only error
     /// is that memory was refused.
     pub(crate) fn of(alloc: Global, edges: Vec<HalfEdge>) -> Result<Option<Boundary>, AllocError> {
-        let links = links_of(alloc, &edges)?;
-        Ok(links.map(|links| Boundary { edges, links }))
+        match links_of(alloc, &edges)? {
+            Some(links) => Ok(Some(Boundary { edges, links })),
+            None => Ok(None),
+        }
     }
 }
 

@@ -14,9 +14,7 @@ use crate::corners::classes::classes_of;
 use crate::corners::cuts::Cuts;
 use crate::corners::star::Star;
 use crate::outlines::Outlines;
-use crate::segment::{HalfEdge, Tally};
-use crate::work::Work;
-use mvt_fault::Profile;
+use mvt_segments::{HalfEdge, Tally, Work};
 use std::alloc::{AllocError, Global};
 
 /// After so many rounds only filled wedges are cut, so that what is filled has fewer positions of
@@ -25,6 +23,15 @@ const MIXED_ROUNDS: u32 = 8;
 
 /// No more rounds than this are tried.
 const GREATEST_ROUNDS: u32 = 1000;
+
+/// Which rings may not touch.
+#[derive(Clone, Copy, Debug, PartialEq, Eq)]
+pub enum Apart {
+    /// Those of one polygon.
+    RingsOfOne,
+    /// Those of any polygons.
+    AllRings,
+}
 
 /// So much work is a round for each edge: two sorts, and a sweep where there are holes.
 const WORK_OF_A_ROUND: u64 = 16;
@@ -41,12 +48,12 @@ enum Round {
 }
 
 /// Adds the rings of the polygons whose boundary the edges are, with what is filled on their left,
-/// after corners were cut where rings of one polygon, or by the profile `feature` of any, touch. The
+/// after corners were cut where rings of one polygon touch, or those of any, as `apart` says. The
 /// edges meet in ends only, and are in their order. Returns whether the work sufficed. The only error
 /// is that memory was refused.
 pub fn add_polygons_apart(
     alloc: Global,
-    profile: Profile,
+    apart: Apart,
     edges: Vec<HalfEdge>,
     work: &mut Work,
     tally: &mut Tally,
@@ -59,7 +66,7 @@ pub fn add_polygons_apart(
     };
     for round in 0..GREATEST_ROUNDS {
         let shrinking = round >= MIXED_ROUNDS;
-        match cut_round(alloc, profile, shrinking, boundary, work, tally, outlines)? {
+        match cut_round(alloc, apart, shrinking, boundary, work, tally, outlines)? {
             Round::Apart => return Ok(true),
             Round::Cut(left) => boundary = left,
             Round::GaveUp => return Ok(false),
@@ -71,7 +78,7 @@ pub fn add_polygons_apart(
 /// Adds the rings of a boundary where none touch that may not, and else cuts corners.
 fn cut_round(
     alloc: Global,
-    profile: Profile,
+    apart: Apart,
     shrinking: bool,
     boundary: Boundary,
     work: &mut Work,
@@ -86,7 +93,7 @@ fn cut_round(
     let Some(traced) = trace(alloc, &boundary.edges, &boundary.links, work)? else {
         return Ok(Round::GaveUp);
     };
-    let Some(cuts) = cuts_of(alloc, profile, shrinking, &boundary, &traced, work)? else {
+    let Some(cuts) = cuts_of(alloc, apart, shrinking, &boundary, &traced, work)? else {
         return Ok(Round::GaveUp);
     };
     if cuts.count > 0 {
@@ -97,7 +104,7 @@ fn cut_round(
             None => Ok(Round::GaveUp),
         };
     }
-    if profile == Profile::Feature && !boundary.links.touches.is_empty() {
+    if apart == Apart::AllRings && !boundary.links.touches.is_empty() {
         return Ok(Round::GaveUp);
     }
     add_outlines(alloc, &traced, outlines)?;
@@ -107,7 +114,7 @@ fn cut_round(
 /// The cuts of a round. None where the work doesn't suffice.
 fn cuts_of(
     alloc: Global,
-    profile: Profile,
+    apart: Apart,
     shrinking: bool,
     boundary: &Boundary,
     traced: &Traced,
@@ -121,7 +128,7 @@ fn cuts_of(
         return Ok(Some(cuts));
     }
     cuts = Cuts::new(alloc, edges.len())?;
-    let Some(classes) = classes_of(alloc, profile, edges, traced)? else {
+    let Some(classes) = classes_of(alloc, apart, edges, traced)? else {
         return Ok(None);
     };
     for touch in &links.touches {
@@ -134,7 +141,7 @@ fn cuts_of(
         if !work.spend(star.spokes.len() as u64) {
             return Ok(None);
         }
-        let wedges = star.wedges_to_cut(alloc, profile, shrinking, edges)?;
+        let wedges = star.wedges_to_cut(alloc, apart, shrinking, edges)?;
         for wedge in &wedges {
             if !cuts.cut(alloc, edges, wedge, work)? {
                 return Ok(None);
@@ -155,21 +162,20 @@ fn star_at<'a>(
     let Some(spokes) = links.spokes.get(touch.first..touch.after) else {
         return Ok(None);
     };
-    let mut star = Star {
+    let mut found = Vec::new(alloc);
+    for spoke in spokes {
+        if spoke.leaves {
+            let Some(class) = class_of(traced, classes, spoke.edge) else {
+                return Ok(None);
+            };
+            found.push(class)?;
+        }
+    }
+    Ok(Some(Star {
         tip: touch.position,
         spokes,
-        classes: Vec::new(alloc),
-    };
-    for spoke in spokes {
-        if !spoke.leaves {
-            continue;
-        }
-        let Some(class) = class_of(traced, classes, spoke.edge) else {
-            return Ok(None);
-        };
-        star.classes.push(class)?;
-    }
-    Ok(Some(star))
+        classes: found,
+    }))
 }
 
 /// The class of the ring of an edge.

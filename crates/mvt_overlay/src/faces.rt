@@ -7,11 +7,10 @@ pub(crate) mod sweep;
 #[cfg(test)]
 mod tests;
 
-use crate::faces::stop::{Stop, answered, spend_down};
+use crate::faces::stop::{Stop, answered, put, spend_down};
 use crate::faces::sweep::{Notes, sweep};
 use crate::groups::Groups;
-use crate::segment::{Segment, Winding};
-use crate::work::Work;
+use mvt_segments::{Segment, Winding, Work};
 use std::alloc::{AllocError, Global};
 
 /// The number of no segment.
@@ -44,7 +43,10 @@ pub(crate) fn directly_below(
     let mut left = *work;
     let swept = sweep(alloc, segments, ends, &mut below, &mut left);
     spend_down(work, left);
-    Ok(answered(swept)?.map(|_| below.below))
+    match answered(swept)? {
+        Some(()) => Ok(Some(below.below)),
+        None => Ok(None),
+    }
 }
 
 /// What is on the sides of a segment.
@@ -89,7 +91,10 @@ pub fn faces_of(
     let mut left = *work;
     let swept = sweep(alloc, segments, ends, &mut around, &mut left);
     spend_down(work, left);
-    Ok(answered(swept)?.map(|_| around.faces))
+    match answered(swept)? {
+        Some(()) => Ok(Some(around.faces)),
+        None => Ok(None),
+    }
 }
 
 /// By the number of each segment, the one directly below it.
@@ -106,9 +111,17 @@ impl Notes for Neighbors {
         _like: Option<u32>,
         _work: &mut Work,
     ) -> Result<(), Stop> {
-        let place = self.below.get_mut(number as usize);
-        *place.ok_or(Stop::GaveUp)? = below;
-        Ok(())
+        put(&mut self.below, number, below)
+    }
+
+    fn follow(
+        &mut self,
+        number: u32,
+        below: u32,
+        _ended: u32,
+        work: &mut Work,
+    ) -> Result<(), Stop> {
+        self.begin(number, below, None, work)
     }
 
     fn go_on(&mut self, _one: u32, _other: u32) -> Result<(), Stop> {
@@ -137,6 +150,29 @@ impl FacesAround<'_> {
     }
 }
 
+impl FacesAround<'_> {
+    /// The face above a segment, or a new one where none is given.
+    #[inline]
+    fn face_like(&mut self, like: Option<u32>) -> Result<u32, Stop> {
+        match like {
+            Some(like) => Ok(self.above(like).1),
+            None => Ok(self.faces.groups.add()?),
+        }
+    }
+
+    /// Notes what is on the sides of a segment.
+    #[inline]
+    fn put(&mut self, number: u32, sides: Sides) -> Result<(), Stop> {
+        match self.faces.sides.get_mut(number as usize) {
+            Some(place) => {
+                *place = sides;
+                Ok(())
+            }
+            None => Err(Stop::GaveUp),
+        }
+    }
+}
+
 impl Notes for FacesAround<'_> {
     fn begin(
         &mut self,
@@ -146,17 +182,29 @@ impl Notes for FacesAround<'_> {
         _work: &mut Work,
     ) -> Result<(), Stop> {
         let (winding, face) = self.above(below);
-        let above = match like {
-            Some(like) => self.above(like).1,
-            None => self.faces.groups.add()?,
+        let above = self.face_like(like)?;
+        self.put(
+            number,
+            Sides {
+                winding,
+                below: face,
+                above,
+            },
+        )
+    }
+
+    #[inline]
+    fn follow(
+        &mut self,
+        number: u32,
+        _below: u32,
+        ended: u32,
+        _work: &mut Work,
+    ) -> Result<(), Stop> {
+        let Some(sides) = self.faces.sides.get(ended as usize).copied() else {
+            return Err(Stop::GaveUp);
         };
-        let place = self.faces.sides.get_mut(number as usize);
-        *place.ok_or(Stop::GaveUp)? = Sides {
-            winding,
-            below: face,
-            above,
-        };
-        Ok(())
+        self.put(number, sides)
     }
 
     fn go_on(&mut self, one: u32, other: u32) -> Result<(), Stop> {

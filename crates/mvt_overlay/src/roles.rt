@@ -11,8 +11,8 @@ mod tests;
 use crate::faces::stop::{answered, spend_down};
 use crate::roles::cleaned::drawn_rings;
 use crate::roles::nesting::Nesting;
-use crate::work::Work;
 use mvt_plane::{Point, twice_area};
+use mvt_segments::Work;
 use std::alloc::{AllocError, Global};
 
 /// The polygons that the rings are meant to be: of each its rings, the exterior first, whatever
@@ -35,12 +35,13 @@ pub fn polygons_meant(
     ensures no_more { work.new ≤ work.old }
 {
     let rings = drawn_rings(alloc, rings)?;
-    if !begin_backwards(&rings) {
-        return Ok(Some(by_area(alloc, rings)?));
+    let areas = areas_of(alloc, &rings)?;
+    if !begin_backwards(&areas) {
+        return Ok(Some(by_area(alloc, rings, &areas)?));
     }
     let nesting = nesting_of(alloc, &views_of(alloc, &rings)?, work)?;
     match nesting {
-        Some(nesting) => Ok(Some(by_nesting(alloc, rings, &nesting)?)),
+        Some(nesting) => Ok(Some(by_nesting(alloc, rings, &areas, &nesting)?)),
         None => Ok(None),
     }
 }
@@ -101,29 +102,40 @@ fn exterior_of(polygon: &[Vec<Point>]) -> &[Point] {
     }
 }
 
-/// Whether the first ring that has an area has a negative one.
-fn begin_backwards(rings: &[Vec<Point>]) -> bool {
+/// Twice the area of each ring.
+fn areas_of(alloc: Global, rings: &[Vec<Point>]) -> Result<Vec<i128>, AllocError> {
+    let mut areas = Vec::with_capacity(alloc, rings.len())?;
     for ring in rings {
-        let area = twice_area(ring);
-        if area != 0 {
-            return area < 0;
+        areas.push(twice_area(ring))?;
+    }
+    Ok(areas)
+}
+
+/// Whether the first of the areas that isn't 0 is negative.
+fn begin_backwards(areas: &[i128]) -> bool {
+    for area in areas {
+        if *area != 0 {
+            return *area < 0;
         }
     }
     false
 }
 
 /// Polygons of rings by the signs of their areas.
-fn by_area(alloc: Global, rings: Vec<Vec<Point>>) -> Result<Vec<Vec<Vec<Point>>>, AllocError> {
+fn by_area(
+    alloc: Global,
+    rings: Vec<Vec<Point>>,
+    areas: &[i128],
+) -> Result<Vec<Vec<Vec<Point>>>, AllocError> {
     let mut polygons: Vec<Vec<Vec<Point>>> = Vec::new(alloc);
     let mut flat = Vec::new(alloc);
-    for ring in rings {
-        let area = twice_area(&ring);
-        if area == 0 {
+    for (ring, area) in rings.into_iter().zip(areas) {
+        if *area == 0 {
             flat.push(vec![in alloc; ring]?)?;
             continue;
         }
         match polygons.last_mut() {
-            Some(polygon) if area < 0 => polygon.push(ring)?,
+            Some(polygon) if *area < 0 => polygon.push(ring)?,
             _ => polygons.push(vec![in alloc; ring]?)?,
         }
     }
@@ -135,6 +147,7 @@ fn by_area(alloc: Global, rings: Vec<Vec<Point>>) -> Result<Vec<Vec<Vec<Point>>>
 fn by_nesting(
     alloc: Global,
     rings: Vec<Vec<Point>>,
+    areas: &[i128],
     nesting: &Nesting,
 ) -> Result<Vec<Vec<Vec<Point>>>, AllocError> {
     let are_odd = nesting.are_odd(alloc)?;
@@ -143,7 +156,7 @@ fn by_nesting(
     let mut holes = Vec::new(alloc);
     let mut polygon_of = vec![in alloc; 0; rings.len()]?;
     for (number, ring) in rings.into_iter().enumerate() {
-        if twice_area(&ring) == 0 {
+        if areas.get(number) == Some(&0) {
             flat.push(vec![in alloc; ring]?)?;
         } else if are_odd.get(number).copied().unwrap_or(false) {
             holes.push((nesting.parent(number), ring))?;
@@ -154,12 +167,31 @@ fn by_nesting(
             polygons.push(vec![in alloc; ring]?)?;
         }
     }
+    add_holes(&mut polygons, &polygon_of, holes)?;
+    polygons.append(&mut flat)?;
+    Ok(polygons)
+}
+
+/// Adds holes to the polygons of the rings around them.
+fn add_holes(
+    polygons: &mut [Vec<Vec<Point>>],
+    polygon_of: &[usize],
+    holes: Vec<(Option<usize>, Vec<Point>)>,
+) -> Result<(), AllocError> {
     for (parent, hole) in holes {
-        let exterior = parent.and_then(|parent| polygon_of.get(parent).copied());
-        if let Some(polygon) = exterior.and_then(|number| polygons.get_mut(number)) {
+        if let Some(polygon) = polygon_around(polygons, polygon_of, parent) {
             polygon.push(hole)?;
         }
     }
-    polygons.append(&mut flat)?;
-    Ok(polygons)
+    Ok(())
+}
+
+/// The polygon of the ring around another one.
+fn polygon_around<'a>(
+    polygons: &'a mut [Vec<Vec<Point>>],
+    polygon_of: &[usize],
+    parent: Option<usize>,
+) -> Option<&'a mut Vec<Vec<Point>>> {
+    let number = *polygon_of.get(parent?)?;
+    polygons.get_mut(number)
 }

@@ -39,7 +39,7 @@ pub(super) fn draw_ring(
     let Some(count) = command_at(numbers, at + 3, LINE_TO) else {
         return Ok(None);
     };
-    let mut ring = Vec::new(alloc);
+    let mut ring = Vec::with_capacity(alloc, most_positions(numbers, at, count))?;
     ring.push(first)?;
     pen.at = at + 4;
     pen.here = first;
@@ -51,6 +51,13 @@ pub(super) fn draw_ring(
     }
     pen.at += 1;
     Ok(Some(ring))
+}
+
+/// How many positions a ring has at most that begins at a place, with so many after its first one: no
+/// more than there are numbers for.
+fn most_positions(numbers: &[u32], at: usize, count: u32) -> usize {
+    let steps = numbers.len().saturating_sub(at) / 2;
+    steps.min(count as usize).saturating_add(1)
 }
 
 /// Draws so many steps, and adds the positions where they lead. Returns whether they are there.

@@ -1,11 +1,13 @@
 //! Segments that meet in ends only, and what is filled between them.
 
-use mvt_overlay::{Faces, HalfEdge, Segment, Tally, Winding, Work, ends_of, faces_of, node};
+use mvt_noding::node;
+use mvt_overlay::{Faces, faces_of};
 use mvt_plane::sweep_key;
+use mvt_segments::{HalfEdge, Segment, Tally, Winding, Work, ends_of};
 use std::alloc::{AllocError, Global};
 
 /// When a place is filled, by its winding.
-#[derive(Clone, Copy, Debug, PartialEq, Eq)]
+#[derive(Clone, Copy)]
 pub(super) enum Fill {
     /// Where the exterior goes round it, whichever way, and the holes together don't.
     ExteriorLessHoles,
@@ -25,13 +27,29 @@ impl Fill {
 }
 
 /// On which side of a segment something is filled.
-#[derive(Clone, Copy, Debug, PartialEq, Eq)]
+#[derive(Clone, Copy)]
 enum FilledSide {
     /// Just above it, and not below: its edge rises.
     Above,
     /// Just below it, and not above: its edge falls.
     Below,
     BothOrNone,
+}
+
+/// No position has so great a key, and none a greater one than the other.
+const AFTER_ALL: i64 = i64::MAX;
+
+const LAST_KEY: i64 = i64::MAX - 1;
+
+/// An edge that falls: one with something filled below it alone.
+#[derive(Clone, Copy)]
+struct Falling {
+    /// Its place in the order of second ends.
+    place: usize,
+    /// The number of its segment.
+    number: usize,
+    /// The key of the position where it begins, its second end. `AFTER_ALL` of none.
+    key: i64,
 }
 
 /// Segments that meet in ends only.
@@ -77,19 +95,7 @@ impl Arranged {
             return Ok(strays);
         }
         let mut inside = vec![in alloc; false; rings]?;
-        for (segment, sides) in self.segments.iter().zip(&self.faces.sides) {
-            let below = sides.winding;
-            let above = below.plus(segment.gain);
-            let ring = segment.source as usize;
-            if let Some(mark) = strays.get_mut(ring) {
-                *mark = true;
-            }
-            if below.exterior != 0 || above.exterior != 0 {
-                if let Some(mark) = inside.get_mut(ring) {
-                    *mark = true;
-                }
-            }
-        }
+        self.mark_rings(&mut strays, &mut inside);
         for (stray, inside) in strays.iter_mut().zip(&inside) {
             *stray = *stray && !*inside;
         }
@@ -97,6 +103,16 @@ impl Arranged {
             *exterior = false;
         }
         Ok(strays)
+    }
+
+    /// Marks each ring that has an edge, and each of which the exterior goes round a side of an edge.
+    fn mark_rings(&self, there: &mut [bool], inside: &mut [bool]) {
+        for (segment, sides) in self.segments.iter().zip(&self.faces.sides) {
+            mark(there, segment.source);
+            if goes_round(sides.winding, segment.gain) {
+                mark(inside, segment.source);
+            }
+        }
     }
 
     /// The edges with something filled on just one side, so that it is on their left, in the order of
@@ -109,51 +125,69 @@ impl Arranged {
     ) -> Result<Vec<HalfEdge>, AllocError> {
         let filled = self.filled_sides(alloc, fill)?;
         let mut edges = Vec::with_capacity(alloc, self.segments.len())?;
-        let mut ended = 0;
+        let mut falling = self.falling_from(0, &filled);
         // (edges that rise begin at first ends, and others at second ends; at one position these come
         // first)
         for (number, side) in filled.iter().enumerate() {
-            if *side != FilledSide::Above {
+            let FilledSide::Above = *side else {
                 continue;
-            }
+            };
             let Some(segment) = self.segments.get(number).copied() else {
                 break;
             };
-            ended = self.add_falling(ended, sweep_key(segment.a), &filled, source, &mut edges)?;
+            let key = sweep_key(segment.a);
+            if falling.key <= key {
+                falling = self.add_falling(falling, key, &filled, source, &mut edges)?;
+            }
             let part = self.part(number, FilledSide::Above);
             edges.push(half_edge(&segment, true, source, part))?;
         }
-        self.add_falling(ended, i64::MAX, &filled, source, &mut edges)?;
+        self.add_falling(falling, LAST_KEY, &filled, source, &mut edges)?;
         Ok(edges)
     }
 
-    /// Adds the edges that begin at second ends of no greater key, from a place in the order of these
-    /// on, and returns the place after them.
+    /// The first edge that falls, from a place in the order of second ends on.
+    #[inline]
+    fn falling_from(&self, from: usize, filled: &[FilledSide]) -> Falling {
+        for place in from..self.ends.len() {
+            let number = self.ends[place] as usize;
+            let Some(FilledSide::Below) = filled.get(number) else {
+                continue;
+            };
+            if let Some(segment) = self.segments.get(number) {
+                let key = sweep_key(segment.b);
+                return Falling { place, number, key };
+            }
+        }
+        Falling {
+            place: self.ends.len(),
+            number: 0,
+            key: AFTER_ALL,
+        }
+    }
+
+    /// Adds the edges from one that falls on that begin at no greater key, and returns the next one.
     fn add_falling(
         &mut self,
-        from: usize,
+        first: Falling,
         key: i64,
         filled: &[FilledSide],
         source: Option<u32>,
         edges: &mut Vec<HalfEdge>,
-    ) -> Result<usize, AllocError> {
-        for place in from..self.ends.len() {
-            let Some(number) = self.ends.get(place).map(|number| *number as usize) else {
+    ) -> Result<Falling, AllocError> {
+        let mut falling = first;
+        for _ in first.place..self.ends.len() {
+            if falling.key > key {
+                break;
+            }
+            let Some(segment) = self.segments.get(falling.number).copied() else {
                 break;
             };
-            if filled.get(number) != Some(&FilledSide::Below) {
-                continue;
-            }
-            let Some(segment) = self.segments.get(number).copied() else {
-                continue;
-            };
-            if sweep_key(segment.b) > key {
-                return Ok(place);
-            }
-            let part = self.part(number, FilledSide::Below);
+            let part = self.part(falling.number, FilledSide::Below);
             edges.push(half_edge(&segment, false, source, part))?;
+            falling = self.falling_from(falling.place.saturating_add(1), filled);
         }
-        Ok(self.ends.len())
+        Ok(falling)
     }
 
     /// On which side of each segment something is filled. Where both sides are alike, the faces on
@@ -185,6 +219,20 @@ impl Arranged {
         };
         self.faces.groups.least(face).unwrap_or(face)
     }
+}
+
+/// Marks the ring of a number, if it is there.
+#[inline]
+fn mark(rings: &mut [bool], number: u32) {
+    if let Some(mark) = rings.get_mut(number as usize) {
+        *mark = true;
+    }
+}
+
+/// Whether the exterior goes round what is just below a segment, or just above it.
+#[inline]
+fn goes_round(below: Winding, gain: Winding) -> bool {
+    below.exterior != 0 || below.plus(gain).exterior != 0
 }
 
 /// A segment as an edge, from the end of lesser key where what is above it is filled.

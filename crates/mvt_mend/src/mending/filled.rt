@@ -5,8 +5,9 @@ use crate::mending::drafts::Drafts;
 use crate::mending::old::Old;
 use crate::mending::segments::segments_of_polygon;
 use mvt_fault::Profile;
-use mvt_overlay::{HalfEdge, Tally, Work, homes_of_strays, short};
+use mvt_overlay::homes_of_strays;
 use mvt_plane::Point;
+use mvt_segments::{HalfEdge, Tally, Work, short};
 use std::alloc::{AllocError, Global};
 
 /// What each draft fills.
@@ -63,25 +64,47 @@ impl Filling {
         work: &mut Work,
         tally: &mut Tally,
     ) -> Result<bool, AllocError> {
-        let mut edges = Vec::new(alloc);
-        let mut again = false;
-        if !drafts.is_right(number) {
-            if let Some(polygon) = drafts.polygons.get_mut(number) {
-                let Some(mut arranged) = arrange(alloc, polygon, old, work, tally)? else {
-                    return Ok(false);
-                };
-                let strays = arranged.strays(alloc, polygon.len())?;
-                if strays.contains(&true) {
-                    again = true;
-                    take_marked(alloc, polygon, &strays, &mut self.strays)?;
-                } else {
-                    edges = filled_by(alloc, &mut arranged, number)?;
-                }
-            }
+        if drafts.is_right(number) {
+            return self.add_none(alloc);
         }
+        let Some(polygon) = drafts.polygons.get_mut(number) else {
+            return self.add_none(alloc);
+        };
+        let Some(arranged) = arrange(alloc, polygon, old, work, tally)? else {
+            return Ok(false);
+        };
+        self.fill_arranged(alloc, polygon, arranged, number)?;
+        Ok(true)
+    }
+
+    /// The same of one that isn't right, once its edges are split.
+    fn fill_arranged(
+        &mut self,
+        alloc: Global,
+        polygon: &mut Vec<Vec<Point>>,
+        mut arranged: Arranged,
+        number: usize,
+    ) -> Result<(), AllocError> {
+        let strays = arranged.strays(alloc, polygon.len())?;
+        if strays.contains(&true) {
+            take_marked(alloc, polygon, &strays, &mut self.strays)?;
+            return self.add(Vec::new(alloc), true);
+        }
+        let edges = filled_by(alloc, &mut arranged, number)?;
+        self.add(edges, false)
+    }
+
+    /// Adds no edges, of a draft that is right.
+    fn add_none(&mut self, alloc: Global) -> Result<bool, AllocError> {
+        self.add(Vec::new(alloc), false)?;
+        Ok(true)
+    }
+
+    /// Adds the edges around what a draft fills, and whether it has to be filled again.
+    fn add(&mut self, edges: Vec<HalfEdge>, again: bool) -> Result<(), AllocError> {
         self.edges.push(edges)?;
         self.again.push(again)?;
-        Ok(true)
+        Ok(())
     }
 
     /// Makes the strays holes of other drafts, or drafts of their own. False where the work doesn't
@@ -137,9 +160,7 @@ impl Filling {
         stray: Vec<Point>,
     ) -> Result<(), AllocError> {
         drafts.add(alloc, vec![in alloc; stray]?)?;
-        self.edges.push(Vec::new(alloc))?;
-        self.again.push(true)?;
-        Ok(())
+        self.add(Vec::new(alloc), true)
     }
 
     /// What each draft fills, after those that changed are filled again. None where the work

@@ -9,8 +9,9 @@ use crate::mending::old::Old;
 use crate::mending::segments::{segments_of_drafts, segments_of_right};
 use crate::mending::starts::restore_starts;
 use mvt_fault::Profile;
-use mvt_overlay::{HalfEdge, Outlines, Segment, Tally, Work, add_polygons_apart, polygons_meant};
+use mvt_overlay::{Apart, Outlines, add_polygons_apart, polygons_meant};
 use mvt_plane::Point;
+use mvt_segments::{HalfEdge, Segment, Tally, Work};
 use std::alloc::{AllocError, Global};
 
 /// Rings that may stand for those of a feature.
@@ -89,17 +90,38 @@ impl Proposal {
     ) -> Result<bool, AllocError> {
         let Drafts { polygons, right } = drafts;
         for ((polygon, right), edges) in polygons.into_iter().zip(right).zip(filled) {
-            if right {
-                self.add_right(polygon, old)?;
-                continue;
-            }
-            // (it isn't needed any more, and may be large)
-            drop(polygon);
-            if !self.add_filled(alloc, profile, edges, old, work)? {
+            let known = if right {
+                Some(polygon)
+            } else {
+                // (it isn't needed any more, and may be large)
+                drop(polygon);
+                None
+            };
+            if !self.add_one(alloc, profile, known, edges, old, work)? {
                 return Ok(false);
             }
         }
         Ok(true)
+    }
+
+    /// Adds a draft: the one that is right, if it is given, or else polygons around what is filled on the
+    /// left of its edges.
+    fn add_one(
+        &mut self,
+        alloc: Global,
+        profile: Profile,
+        right: Option<Vec<Vec<Point>>>,
+        edges: Vec<HalfEdge>,
+        old: Old,
+        work: &mut Work,
+    ) -> Result<bool, AllocError> {
+        match right {
+            Some(polygon) => {
+                self.add_right(polygon, old)?;
+                Ok(true)
+            }
+            None => self.add_filled(alloc, profile, edges, old, work),
+        }
     }
 
     /// Adds rings as they are.
@@ -123,7 +145,8 @@ impl Proposal {
     ) -> Result<bool, AllocError> {
         let outlines = &mut self.outlines;
         let (rings, vertices) = (outlines.rings.len(), outlines.witnesses.len());
-        if !add_polygons_apart(alloc, profile, edges, work, &mut self.tally, outlines)? {
+        let apart = rings_apart(profile);
+        if !add_polygons_apart(alloc, apart, edges, work, &mut self.tally, outlines)? {
             return Ok(false);
         }
         restore_starts(&mut self.outlines, old, rings, vertices);
@@ -173,6 +196,14 @@ impl Proposal {
         let edges = arranged.boundary(alloc, Fill::Polygons, None)?;
         drop(arranged);
         self.add_filled(alloc, Profile::Feature, edges, old, work)
+    }
+}
+
+/// Which rings may not touch by a profile.
+fn rings_apart(profile: Profile) -> Apart {
+    match profile {
+        Profile::Polygon => Apart::RingsOfOne,
+        Profile::Feature => Apart::AllRings,
     }
 }
 

@@ -4,8 +4,8 @@ use crate::mending::drafts::Drafts;
 use crate::mending::old::Old;
 use crate::near::edge_at;
 use crate::near::edges::{NO_EDGE, count_of};
-use mvt_overlay::{HalfEdge, Segment, Winding, short};
 use mvt_plane::{Edge, Point, sweep_key, twice_area};
+use mvt_segments::{HalfEdge, Segment, Winding, short};
 use std::alloc::{AllocError, Global};
 
 /// What the winding gains from the right to the left of an edge with something filled on its left.
@@ -90,8 +90,10 @@ fn count_of_drafts(drafts: &Drafts, filled: &[Vec<HalfEdge>]) -> usize {
     for (number, polygon) in drafts.polygons.iter().enumerate() {
         let its = if drafts.is_right(number) {
             count_of(polygon)
+        } else if let Some(edges) = filled.get(number) {
+            edges.len()
         } else {
-            filled.get(number).map_or(0, |edges| edges.len())
+            0
         };
         count = count.saturating_add(its);
     }
@@ -136,6 +138,9 @@ fn add_ring(
     source: u32,
     old: Old,
 ) -> Result<(), AllocError> {
+    if let Some(first) = old.edges.first_of_same(old.rings, ring) {
+        return add_given(segments, ring, gain, source, first);
+    }
     let mut witness = NO_EDGE;
     for vertex in 0..ring.len() {
         let Edge { a, b } = edge_at(ring, vertex);
@@ -147,8 +152,28 @@ fn add_ring(
     Ok(())
 }
 
+/// The same of a ring that was given, of which the first edge has this number, and the others follow.
+fn add_given(
+    segments: &mut Vec<Segment>,
+    ring: &[Point],
+    gain: Winding,
+    source: u32,
+    first: u32,
+) -> Result<(), AllocError> {
+    let mut witness = first;
+    for vertex in 0..ring.len() {
+        let Edge { a, b } = edge_at(ring, vertex);
+        if let Some(segment) = segment_along(a, b, gain, source, witness) {
+            segments.push(segment)?;
+        }
+        witness = witness.wrapping_add(1);
+    }
+    Ok(())
+}
+
 /// The segment of an edge that goes from one position to another, across which the winding gains so
 /// much from its right to its left. None where it has no length.
+#[inline]
 fn segment_along(
     from: Point,
     to: Point,

@@ -1,8 +1,8 @@
 //! The edges of the rings that were given, by number and along rings.
 
 use crate::near::edge_at;
-use mvt_overlay::short;
 use mvt_plane::{Point, sweep_key};
+use mvt_segments::short;
 use std::alloc::{AllocError, Global};
 
 /// The number of no edge.
@@ -35,9 +35,7 @@ impl OldEdges {
         for ring in 0..rings.len() {
             edges.add_ring(ring, &rings[ring])?;
         }
-        edges
-            .beginnings
-            .sort_unstable_by_key(|pair| (pair.0, pair.1));
+        edges.beginnings.sort_unstable();
         Ok(edges)
     }
 
@@ -57,6 +55,7 @@ impl OldEdges {
     }
 
     /// The ring of an edge, and the vertex where it begins.
+    #[inline]
     pub(crate) fn place(&self, number: u32) -> Option<(usize, usize)> {
         let (ring, vertex) = *self.places.get(number as usize)?;
         Some((ring as usize, vertex as usize))
@@ -79,9 +78,29 @@ impl OldEdges {
         Ok(())
     }
 
+    /// The number of the first edge of the ring that was given and has these vertices, from the same
+    /// one on, if there is one and all of its edges have a length: then those of the others follow.
+    pub(crate) fn first_of_same(&self, rings: &[Vec<Point>], ring: &[Point]) -> Option<u32> {
+        let key = sweep_key(*ring.first()?);
+        let begin = self.first_beginning(key);
+        for at in begin..begin.saturating_add(FEW_RINGS) {
+            let (its_key, number) = *self.beginnings.get(at)?;
+            if its_key != key {
+                return None;
+            }
+            let (first, after) = self.numbers_of(number as usize);
+            let has_all = after.wrapping_sub(first) as usize == ring.len();
+            if has_all && is_same(rings.get(number as usize), ring) {
+                return Some(first);
+            }
+        }
+        None
+    }
+
     /// The number of an edge between two positions, whichever way it goes, or `NO_EDGE` where none
     /// is found. It is looked for beside the edge `before`, and else where rings begin: so along a
     /// ring that begins where an old one does each edge is found, whichever way it goes round.
+    #[inline]
     pub(crate) fn number_of(
         &self,
         rings: &[Vec<Point>],
@@ -93,6 +112,11 @@ impl OldEdges {
         if self.is_between(rings, next, from, to) {
             return next;
         }
+        self.number_elsewhere(rings, from, to, before)
+    }
+
+    /// The same, where it isn't the number after that one.
+    fn number_elsewhere(&self, rings: &[Vec<Point>], from: Point, to: Point, before: u32) -> u32 {
         let found = self.number_beside(rings, from, to, before);
         if found != NO_EDGE {
             return found;
@@ -111,10 +135,23 @@ impl OldEdges {
         let next = if next == after { first } else { next };
         let previous = if before == first { after } else { before };
         let previous = previous.wrapping_sub(1);
-        for number in [next, previous] {
-            if self.is_between(rings, number, from, to) {
-                return number;
-            }
+        self.between_of(rings, next, previous, from, to)
+    }
+
+    /// The one of two edges that is between two positions, or `NO_EDGE` where neither is.
+    fn between_of(
+        &self,
+        rings: &[Vec<Point>],
+        one: u32,
+        other: u32,
+        from: Point,
+        to: Point,
+    ) -> u32 {
+        if self.is_between(rings, one, from, to) {
+            return one;
+        }
+        if self.is_between(rings, other, from, to) {
+            return other;
         }
         NO_EDGE
     }
@@ -122,34 +159,40 @@ impl OldEdges {
     /// The number of an edge between two positions that is the first or the last one of a ring which
     /// begins at one of them.
     fn number_at_beginning(&self, rings: &[Vec<Point>], from: Point, to: Point) -> u32 {
-        for position in [from, to] {
-            let key = sweep_key(position);
-            let begin = self.beginnings.partition_point(|pair| pair.0 < key);
-            for at in begin..begin.saturating_add(FEW_RINGS) {
-                let Some((its_key, ring)) = self.beginnings.get(at).copied() else {
-                    break;
-                };
-                if its_key != key {
-                    break;
-                }
-                let found = self.number_at_ends(rings, ring as usize, from, to);
-                if found != NO_EDGE {
-                    return found;
-                }
+        let found = self.number_by_key(rings, sweep_key(from), from, to);
+        if found != NO_EDGE {
+            return found;
+        }
+        self.number_by_key(rings, sweep_key(to), from, to)
+    }
+
+    /// The same, of a ring that begins at the position of a key.
+    fn number_by_key(&self, rings: &[Vec<Point>], key: i64, from: Point, to: Point) -> u32 {
+        let begin = self.first_beginning(key);
+        for at in begin..begin.saturating_add(FEW_RINGS) {
+            let Some((its_key, ring)) = self.beginnings.get(at).copied() else {
+                return NO_EDGE;
+            };
+            if its_key != key {
+                return NO_EDGE;
+            }
+            let found = self.number_at_ends(rings, ring as usize, from, to);
+            if found != NO_EDGE {
+                return found;
             }
         }
         NO_EDGE
     }
 
+    /// The place of the first beginning of a ring that has no lesser key.
+    fn first_beginning(&self, key: i64) -> usize {
+        self.beginnings.partition_point(|pair| pair.0 < key)
+    }
+
     /// The number of the first or the last edge of a ring, if it is between two positions.
     fn number_at_ends(&self, rings: &[Vec<Point>], ring: usize, from: Point, to: Point) -> u32 {
         let (first, after) = self.numbers_of(ring);
-        for number in [first, after.wrapping_sub(1)] {
-            if self.is_between(rings, number, from, to) {
-                return number;
-            }
-        }
-        NO_EDGE
+        self.between_of(rings, first, after.wrapping_sub(1), from, to)
     }
 
     /// The number of the first edge of a ring, and that after its last one.
@@ -160,6 +203,7 @@ impl OldEdges {
     }
 
     /// Whether an edge is between two positions.
+    #[inline]
     fn is_between(&self, rings: &[Vec<Point>], number: u32, from: Point, to: Point) -> bool {
         let Some((ring, vertex)) = self.place(number) else {
             return false;
@@ -172,6 +216,14 @@ impl OldEdges {
         }
         let edge = edge_at(vertices, vertex);
         (edge.a == from && edge.b == to) || (edge.a == to && edge.b == from)
+    }
+}
+
+/// Whether a ring, if it is there, has these vertices.
+fn is_same(ring: Option<&Vec<Point>>, vertices: &[Point]) -> bool {
+    match ring {
+        Some(ring) => ring.as_slice() == vertices,
+        None => false,
     }
 }
 

@@ -5,10 +5,9 @@ use crate::boundary::NO_NUMBER;
 use crate::boundary::rings::{BoundaryRing, lowest_edge};
 use crate::faces::directly_below;
 use crate::groups::Groups;
-use crate::order::{ends_of, sorted_by_ends};
-use crate::segment::{HalfEdge, Segment, Winding};
-use crate::work::Work;
+use crate::lists::set;
 use mvt_plane::sweep_key;
+use mvt_segments::{HalfEdge, Segment, Winding, Work, ends_of, sorted_by_ends};
 use std::alloc::{AllocError, Global};
 
 /// Of each ring the number of the exterior of its part: an exterior's own, and of a hole that of
@@ -35,7 +34,21 @@ pub(super) fn exteriors_of(
         return Ok(Some(exteriors));
     }
     let lowest = lowest_of(alloc, edges, next, rings, &exteriors)?;
-    let Some(under) = rings_under(alloc, edges, &lowest, ring_of, work)? else {
+    with_those_under(alloc, edges, &lowest, ring_of, exteriors, work)
+}
+
+/// These with those of holes, of which the lowest edges are given. None as above.
+fn with_those_under(
+    alloc: Global,
+    edges: &[HalfEdge],
+    lowest: &[u32],
+    ring_of: &[u32],
+    mut exteriors: Vec<u32>,
+    work: &mut Work,
+) -> Result<Option<Vec<u32>>, AllocError>
+    ensures no_more { work.new ≤ work.old }
+{
+    let Some(under) = rings_under(alloc, edges, lowest, ring_of, work)? else {
         return Ok(None);
     };
     if add_those_of_holes(&under, &mut exteriors, work) {
@@ -67,29 +80,55 @@ fn add_those_of_parts(
     parts: &mut Groups,
     exteriors: &mut [u32],
 ) -> Result<(), AllocError> {
-    let mut of_parts = vec![in alloc; PartExterior::None; parts.count()]?;
-    for (ring, exterior) in rings.iter().zip(exteriors.iter()) {
-        if *exterior != NO_NUMBER {
-            if let Some(of_part) = part_of(edges, ring, parts).and_then(|part| of_parts.get_mut(
-                part,
-            )) {
-                *of_part = of_part.and(*exterior);
-            }
-        }
-    }
+    let of_parts = exteriors_of_parts(alloc, edges, rings, parts, exteriors)?;
     for (ring, exterior) in rings.iter().zip(exteriors.iter_mut()) {
-        let of_part = part_of(edges, ring, parts).and_then(|part| of_parts.get(part));
-        if let Some(PartExterior::One(of_hole)) = of_part {
-            if *exterior == NO_NUMBER {
-                *exterior = *of_hole;
-            }
+        if *exterior == NO_NUMBER {
+            *exterior = only_exterior(&of_parts, part_of(edges, ring, parts));
         }
     }
     Ok(())
 }
 
+/// Of each part its exterior, as far as those of rings are known.
+fn exteriors_of_parts(
+    alloc: Global,
+    edges: &[HalfEdge],
+    rings: &[BoundaryRing],
+    parts: &mut Groups,
+    exteriors: &[u32],
+) -> Result<Vec<PartExterior>, AllocError> {
+    let mut of_parts = vec![in alloc; PartExterior::None; parts.count()]?;
+    for (ring, exterior) in rings.iter().zip(exteriors) {
+        if *exterior != NO_NUMBER {
+            note_exterior(&mut of_parts, part_of(edges, ring, parts), *exterior);
+        }
+    }
+    Ok(of_parts)
+}
+
+/// Notes that a part has this exterior.
+fn note_exterior(of_parts: &mut [PartExterior], part: Option<usize>, exterior: u32) {
+    let Some(part) = part else {
+        return;
+    };
+    if let Some(of_part) = of_parts.get_mut(part) {
+        *of_part = of_part.and(exterior);
+    }
+}
+
+/// The exterior of a part that has only one, or else `NO_NUMBER`.
+fn only_exterior(of_parts: &[PartExterior], part: Option<usize>) -> u32 {
+    let Some(part) = part else {
+        return NO_NUMBER;
+    };
+    match of_parts.get(part) {
+        Some(PartExterior::One(exterior)) => *exterior,
+        _ => NO_NUMBER,
+    }
+}
+
 /// The exterior of a part, as far as it is known.
-#[derive(Clone, Copy, Debug, PartialEq, Eq)]
+#[derive(Clone, Copy)]
 enum PartExterior {
     None,
     /// The ring of this number.
@@ -122,9 +161,7 @@ fn add_those_of_holes(under: &[u32], exteriors: &mut [u32], work: &mut Work) -> 
         let Some(exterior) = exterior_of(under, exteriors, number, work) else {
             return false;
         };
-        if let Some(place) = exteriors.get_mut(number) {
-            *place = exterior;
-        }
+        set(exteriors, number, exterior);
     }
     true
 }
@@ -157,9 +194,9 @@ fn lowest_of(
     exteriors: &[u32],
 ) -> Result<Vec<u32>, AllocError> {
     let mut lowest = Vec::with_capacity(alloc, rings.len())?;
-    for (ring, exterior) in rings.iter().zip(exteriors) {
-        lowest.push(if *exterior == NO_NUMBER {
-            lowest_edge(edges, next, ring)
+    for number in 0..rings.len() {
+        lowest.push(if exteriors.get(number) == Some(&NO_NUMBER) {
+            lowest_edge(edges, next, &rings[number])
         } else {
             NO_NUMBER
         })?;
@@ -185,16 +222,20 @@ fn rings_under(
     };
     let mut ring_under_edge = vec![in alloc; NO_NUMBER; edges.len()]?;
     for (segment, under) in segments.iter().zip(&below) {
-        if let Some(place) = ring_under_edge.get_mut(segment.witness as usize) {
-            *place = ring_of_segment(&segments, ring_of, *under).unwrap_or(NO_NUMBER);
-        }
+        let ring = ring_of_segment(&segments, ring_of, *under).unwrap_or(NO_NUMBER);
+        set(&mut ring_under_edge, segment.witness as usize, ring);
     }
-    let mut under = Vec::with_capacity(alloc, lowest.len())?;
-    for edge in lowest {
-        let number = ring_under_edge.get(*edge as usize);
-        under.push(number.copied().unwrap_or(NO_NUMBER))?;
+    Ok(Some(those_at(alloc, &ring_under_edge, lowest)?))
+}
+
+/// The numbers at these places, or `NO_NUMBER`.
+fn those_at(alloc: Global, numbers: &[u32], places: &[u32]) -> Result<Vec<u32>, AllocError> {
+    let mut found = Vec::with_capacity(alloc, places.len())?;
+    for place in places {
+        let number = numbers.get(*place as usize).copied();
+        found.push(number.unwrap_or(NO_NUMBER))?;
     }
-    Ok(Some(under))
+    Ok(found)
 }
 
 /// The ring of the edge that the segment of this number is.
@@ -206,31 +247,26 @@ fn ring_of_segment(segments: &[Segment], ring_of: &[u32], number: u32) -> Option
 /// The edges as segments, in the order of their ends. The `witness` of each is its edge's number.
 fn segments_of(alloc: Global, edges: &[HalfEdge]) -> Result<Vec<Segment>, AllocError> {
     let mut segments = Vec::with_capacity(alloc, edges.len())?;
-    for (witness, edge) in (0u32..).zip(edges) {
-        segments.push(Segment {
-            witness,
-            ..segment_of(edge)
-        })?;
+    let mut number = 0u32;
+    for edge in edges {
+        segments.push(segment_of(edge, number))?;
+        number = number.wrapping_add(1);
     }
     sorted_by_ends(alloc, segments)
 }
 
-/// An edge as a segment, which has what is filled above it or below it.
-fn segment_of(edge: &HalfEdge) -> Segment {
-    let rises = sweep_key(edge.from) < sweep_key(edge.to);
-    let (a, b) = if rises {
-        (edge.from, edge.to)
+/// The edge of a number as a segment, which has what is filled above it or below it.
+fn segment_of(edge: &HalfEdge, number: u32) -> Segment {
+    let (a, b, exterior) = if sweep_key(edge.from) < sweep_key(edge.to) {
+        (edge.from, edge.to, 1)
     } else {
-        (edge.to, edge.from)
+        (edge.to, edge.from, -1)
     };
     Segment {
         a,
         b,
-        gain: Winding {
-            exterior: if rises { 1 } else { -1 },
-            holes: 0,
-        },
+        gain: Winding { exterior, holes: 0 },
         source: edge.source,
-        witness: edge.witness,
+        witness: number,
     }
 }

@@ -2,14 +2,14 @@
 
 use crate::boundary::NO_NUMBER;
 use crate::boundary::successors::{Following, Successors, found_after};
-use crate::numbers::short;
-use crate::segment::HalfEdge;
+use crate::lists::set;
 use mvt_plane::{Point, side};
+use mvt_segments::{HalfEdge, short};
 use std::alloc::{AllocError, Global};
 use std::cmp::Ordering;
 
 /// An edge as it is seen from one of its ends.
-#[derive(Clone, Copy, Debug, PartialEq, Eq)]
+#[derive(Clone, Copy)]
 pub(crate) struct Spoke {
     /// Its number.
     pub(crate) edge: u32,
@@ -20,7 +20,7 @@ pub(crate) struct Spoke {
 }
 
 /// A position where more than one edge begins.
-#[derive(Clone, Copy, Debug, PartialEq, Eq)]
+#[derive(Clone, Copy)]
 pub(crate) struct Touch {
     pub(crate) position: Point,
     /// The number of the first edge that begins there.
@@ -110,19 +110,25 @@ fn next_after(
 ) -> Result<Vec<u32>, AllocError> {
     let mut next = vec![in alloc; NO_NUMBER; count]?;
     for (number, following) in numbers.iter().zip(before) {
-        let following = *following as usize;
-        if stale.get(following) != Some(&false) {
-            continue;
-        }
-        if let (Some(place), Some(now)) = (next.get_mut(*number as usize), numbers.get(following)) {
-            *place = *now;
+        if let Some(now) = number_now(numbers, stale, *following) {
+            set(&mut next, *number as usize, now);
         }
     }
     Ok(next)
 }
 
+/// The number of an edge now, unless it is stale.
+#[inline]
+fn number_now(numbers: &[u32], stale: &[bool], edge: u32) -> Option<u32> {
+    if *stale.get(edge as usize)? {
+        None
+    } else {
+        numbers.get(edge as usize).copied()
+    }
+}
+
 /// An edge that ends where several begin.
-#[derive(Clone, Copy, Debug, PartialEq, Eq)]
+#[derive(Clone, Copy)]
 struct Arrival {
     /// The number of the first edge that begins there.
     first: u32,
@@ -157,9 +163,7 @@ impl Links {
 
     /// Notes that one edge follows another.
     fn link(&mut self, edge: u32, following: u32) {
-        if let Some(next) = self.next.get_mut(edge as usize) {
-            *next = following;
-        }
+        set(&mut self.next, edge as usize, following);
     }
 
     /// Adds the positions where several edges begin, at which these arrive. Returns whether they leave
@@ -186,7 +190,7 @@ impl Links {
         edges: &[HalfEdge],
         arrivals: &[Arrival],
     ) -> Result<bool, AllocError> {
-        let Some(first) = arrivals.first().map(|arrival| arrival.first) else {
+        let Some(Arrival { first, .. }) = arrivals.first().copied() else {
             return Ok(true);
         };
         let Some(edge) = edges.get(first as usize) else {
@@ -238,17 +242,43 @@ fn spokes_round(
     arrivals: &[Arrival],
 ) -> Result<Vec<Spoke>, AllocError> {
     let mut round = Vec::with_capacity(alloc, arrivals.len().saturating_mul(2))?;
-    let leaving = edges.get(first as usize..).unwrap_or_default();
-    for (edge, leaves) in (first..).zip(leaving) {
-        if leaves.from != position {
+    add_leaving(edges, first, position, &mut round)?;
+    add_arriving(edges, arrivals, &mut round)?;
+    round.sort_unstable_by(|one, other| round_order(position, one.to, other.to));
+    if !round.is_empty() && !round[0].leaves {
+        round.rotate_left(1);
+    }
+    Ok(round)
+}
+
+/// Adds the spokes that begin at a position, of which the first edge has this number.
+fn add_leaving(
+    edges: &[HalfEdge],
+    first: u32,
+    position: Point,
+    round: &mut Vec<Spoke>,
+) -> Result<(), AllocError> {
+    let mut edge = first;
+    for leaving in edges.get(first as usize..).unwrap_or_default() {
+        if leaving.from != position {
             break;
         }
         round.push(Spoke {
             edge,
-            to: leaves.to,
+            to: leaving.to,
             leaves: true,
         })?;
+        edge = edge.wrapping_add(1);
     }
+    Ok(())
+}
+
+/// Adds the spokes that arrive there.
+fn add_arriving(
+    edges: &[HalfEdge],
+    arrivals: &[Arrival],
+    round: &mut Vec<Spoke>,
+) -> Result<(), AllocError> {
     for arrival in arrivals {
         if let Some(arriving) = edges.get(arrival.edge as usize) {
             round.push(Spoke {
@@ -258,11 +288,7 @@ fn spokes_round(
             })?;
         }
     }
-    round.sort_unstable_by(|one, other| round_order(position, one.to, other.to));
-    if !round.is_empty() && !round[0].leaves {
-        round.rotate_left(1);
-    }
-    Ok(round)
+    Ok(())
 }
 
 /// How two positions follow each other round a third one, counterclockwise from the direction of the

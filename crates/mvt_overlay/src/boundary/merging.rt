@@ -1,9 +1,8 @@
 //! A boundary after edges were taken away and others put in their place.
 
 use crate::boundary::{NO_NUMBER, number_of};
-use crate::order::merge_into;
-use crate::segment::{HalfEdge, Keyed};
 use mvt_plane::sweep_key;
+use mvt_segments::{HalfEdge, Keyed, merge_into};
 use std::alloc::{AllocError, Global};
 
 /// Edges after a change.

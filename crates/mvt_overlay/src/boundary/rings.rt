@@ -5,15 +5,13 @@ use crate::boundary::NO_NUMBER;
 use crate::boundary::exteriors::exteriors_of;
 use crate::boundary::links::Links;
 use crate::groups::Groups;
-use crate::numbers::short;
 use crate::outlines::Outlines;
-use crate::segment::HalfEdge;
-use crate::work::Work;
 use mvt_plane::{Point, area_part, side};
+use mvt_segments::{HalfEdge, Work, short};
 use std::alloc::{AllocError, Global};
 
 /// A ring of edges.
-#[derive(Clone, Copy, Debug, PartialEq, Eq)]
+#[derive(Clone, Copy)]
 pub(crate) struct BoundaryRing {
     /// The number of its first edge, which begins at its vertex of least key.
     pub(crate) first: u32,
@@ -58,19 +56,14 @@ pub(crate) fn trace(
         witnesses: Vec::with_capacity(alloc, edges.len())?,
     };
     let mut parts = Groups::new(alloc, part_count(edges))?;
-    for first in 0..edges.len() {
-        if traced.ring_of.get(first) == Some(&NO_NUMBER)
-            && !traced.add_ring(edges, &links.next, first, &mut parts)?
-        {
-            return Ok(None);
-        }
+    if !traced.add_rings(edges, &links.next, &mut parts)? {
+        return Ok(None);
     }
-    let rings = &traced.rings;
     let Some(exteriors) = exteriors_of(
         alloc,
         edges,
         &links.next,
-        rings,
+        &traced.rings,
         &traced.ring_of,
         &mut parts,
         work,
@@ -92,6 +85,23 @@ fn part_count(edges: &[HalfEdge]) -> usize {
 }
 
 impl Traced {
+    /// Adds all rings. False where one doesn't come back, or has no area.
+    fn add_rings(
+        &mut self,
+        edges: &[HalfEdge],
+        next: &[u32],
+        parts: &mut Groups,
+    ) -> Result<bool, AllocError> {
+        for first in 0..edges.len() {
+            if self.ring_of.get(first) == Some(&NO_NUMBER)
+                && !self.add_ring(edges, next, first, parts)?
+            {
+                return Ok(false);
+            }
+        }
+        Ok(true)
+    }
+
     /// Adds the ring that begins with this edge, whose edges it marks with its number. The parts of
     /// its edges become one. False where it doesn't come back, or where it has no area.
     fn add_ring(
@@ -102,33 +112,47 @@ impl Traced {
         parts: &mut Groups,
     ) -> Result<bool, AllocError> {
         let number = short(self.rings.len());
-        let Some(part) = edges.get(first).map(|edge| edge.part) else {
+        let Some(HalfEdge { part, .. }) = edges.get(first).copied() else {
             return Ok(false);
         };
         let begin = self.vertices.len();
         let mut area: i128 = 0;
         let mut at = first;
         for _ in 0..edges.len() {
-            let (Some(edge), Some(mark), Some(following)) = (
-                edges.get(at),
-                self.ring_of.get_mut(at),
-                next.get(at),
-            ) else {
+            let (Some(edge), Some(following)) = (edges.get(at), next.get(at)) else {
                 return Ok(false);
             };
-            if *mark != NO_NUMBER || (edge.part != part && parts.join(part, edge.part).is_none()) {
+            if !self.takes(at, number) || !are_joined(parts, part, edge.part) {
                 return Ok(false);
             }
-            *mark = number;
             area = area.wrapping_add(i128::from(area_part(edge.from, edge.to)));
-            self.vertices.push(edge.from)?;
-            self.witnesses.push(edge.witness)?;
+            self.add_vertex(edge)?;
             at = *following as usize;
             if at == first {
                 return self.end_ring(first, begin, area);
             }
         }
         Ok(false)
+    }
+
+    /// Marks an edge with the number of its ring, and returns whether it had none before.
+    #[inline]
+    fn takes(&mut self, edge: usize, ring: u32) -> bool {
+        match self.ring_of.get_mut(edge) {
+            Some(mark) if *mark == NO_NUMBER => {
+                *mark = ring;
+                true
+            }
+            _ => false,
+        }
+    }
+
+    /// Adds the vertex where an edge begins.
+    #[inline]
+    fn add_vertex(&mut self, edge: &HalfEdge) -> Result<(), AllocError> {
+        self.vertices.push(edge.from)?;
+        self.witnesses.push(edge.witness)?;
+        Ok(())
     }
 
     /// Adds the ring of the vertices from this place on. False where it has no area.
@@ -141,6 +165,12 @@ impl Traced {
         })?;
         Ok(area != 0)
     }
+}
+
+/// Makes one part of two. False where there is no such part.
+#[inline]
+fn are_joined(parts: &mut Groups, one: u32, other: u32) -> bool {
+    one == other || parts.join(one, other).is_some()
 }
 
 /// The number of the lowest of the edges of a ring at its vertex of least key, or `NO_NUMBER` where
@@ -199,23 +229,38 @@ pub(crate) fn add_outlines(
     traced: &Traced,
     outlines: &mut Outlines,
 ) -> Result<(), AllocError> {
-    let mut order = Vec::with_capacity(alloc, traced.rings.len())?;
-    for (number, exterior) in traced.exteriors.iter().enumerate() {
-        // (a hole has its exterior's ring before it)
-        order.push((*exterior, number))?;
-    }
-    order.sort_unstable_by_key(|pair| (pair.0, pair.1));
-    for (_, number) in &order {
-        let Some(BoundaryRing { begin, after, .. }) = traced.rings.get(*number).copied() else {
-            continue;
-        };
-        if let (Some(vertices), Some(witnesses)) = (
-            traced.vertices.get(begin..after),
-            traced.witnesses.get(begin..after),
-        ) {
-            outlines.rings.push(Vec::from_slice(alloc, vertices)?)?;
-            outlines.witnesses.extend_from_slice(witnesses)?;
+    for (_, number) in &ring_order(alloc, &traced.exteriors)? {
+        if let Some(ring) = traced.rings.get(*number) {
+            add_outline(alloc, traced, ring, outlines)?;
         }
+    }
+    Ok(())
+}
+
+/// The numbers of rings with those of their exteriors, in the order of these.
+fn ring_order(alloc: Global, exteriors: &[u32]) -> Result<Vec<(u32, usize)>, AllocError> {
+    let mut order = Vec::with_capacity(alloc, exteriors.len())?;
+    for number in 0..exteriors.len() {
+        // (a hole has its exterior's ring before it)
+        order.push((exteriors[number], number))?;
+    }
+    order.sort_unstable();
+    Ok(order)
+}
+
+/// Adds one of the rings.
+fn add_outline(
+    alloc: Global,
+    traced: &Traced,
+    ring: &BoundaryRing,
+    outlines: &mut Outlines,
+) -> Result<(), AllocError> {
+    if let (Some(vertices), Some(witnesses)) = (
+        traced.vertices.get(ring.begin..ring.after),
+        traced.witnesses.get(ring.begin..ring.after),
+    ) {
+        outlines.rings.push(Vec::from_slice(alloc, vertices)?)?;
+        outlines.witnesses.extend_from_slice(witnesses)?;
     }
     Ok(())
 }

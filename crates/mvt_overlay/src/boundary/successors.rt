@@ -1,10 +1,9 @@
 //! Which edges begin where another one ends.
 
 use crate::boundary::{NO_NUMBER, first_from};
-use crate::numbers::short;
-use crate::segment::HalfEdge;
-use crate::witnesses::WitnessRange;
+use crate::lists::set;
 use mvt_plane::{Point, sweep_key};
+use mvt_segments::{HalfEdge, WitnessRange, short};
 use std::alloc::{AllocError, Global};
 
 /// Which edges come of which old ones. Mostly an edge goes on with one of the old edge beside its own,
@@ -19,7 +18,7 @@ pub(super) struct Successors {
 }
 
 /// The first of the edges that begin at a position.
-#[derive(Clone, Copy, Debug, PartialEq, Eq)]
+#[derive(Clone, Copy)]
 pub(super) struct Following {
     /// Its number.
     pub(super) first: u32,
@@ -30,21 +29,20 @@ pub(super) struct Following {
 impl Successors {
     /// Those of edges, which are in their order.
     pub(super) fn of(alloc: Global, edges: &[HalfEdge]) -> Result<Successors, AllocError> {
-        let range = WitnessRange::of(edges, &|edge: &HalfEdge| edge.witness);
-        let count = range.map_or(0, |range| range.count());
-        let mut by_witness = vec![in alloc; NO_NUMBER; count]?;
-        if let Some(range) = range {
-            for (number, edge) in edges.iter().enumerate() {
-                if !begins_alone(edges, number, edge.from) {
-                    continue;
-                }
-                if let Some(place) = by_witness.get_mut(range.place(edge.witness)) {
-                    *place = short(number);
-                }
+        let Some(range) = WitnessRange::of(edges, &|edge: &HalfEdge| edge.witness) else {
+            return Ok(Successors {
+                range: None,
+                edges: Vec::new(alloc),
+            });
+        };
+        let mut by_witness = vec![in alloc; NO_NUMBER; range.count()]?;
+        for (number, edge) in edges.iter().enumerate() {
+            if begins_alone(edges, number, edge.from) {
+                set(&mut by_witness, range.place(edge.witness), short(number));
             }
         }
         Ok(Successors {
-            range,
+            range: Some(range),
             edges: by_witness,
         })
     }
@@ -53,18 +51,39 @@ impl Successors {
     /// is one.
     #[inline]
     pub(super) fn after(&self, edges: &[HalfEdge], edge: &HalfEdge) -> Option<Following> {
-        let Some(range) = self.range else {
-            return found_after(edges, edge);
-        };
-        for witness in [edge.witness.wrapping_add(1), edge.witness.wrapping_sub(1)] {
-            let number = self.edges.get(range.place(witness)).copied();
-            let first = number.unwrap_or(NO_NUMBER);
-            if edges.get(first as usize).map(|next| next.from) == Some(edge.to) {
-                let is_only = true;
-                return Some(Following { first, is_only });
+        match self.beside(edges, edge) {
+            Some(first) => Some(Following {
+                first,
+                is_only: true,
+            }),
+            None => found_after(edges, edge),
+        }
+    }
+
+    /// The number of one that begins there alone and comes of the old edge after that of this one, or
+    /// of the one before.
+    #[inline]
+    fn beside(&self, edges: &[HalfEdge], edge: &HalfEdge) -> Option<u32> {
+        let range = self.range?;
+        let next = range.place(edge.witness.wrapping_add(1));
+        match self.begun_at(edges, next, edge.to) {
+            Some(first) => Some(first),
+            None => {
+                let previous = range.place(edge.witness.wrapping_sub(1));
+                self.begun_at(edges, previous, edge.to)
             }
         }
-        found_after(edges, edge)
+    }
+
+    /// The number of the edge that comes of the old edge at a place, if it begins at a position.
+    #[inline]
+    fn begun_at(&self, edges: &[HalfEdge], place: usize, position: Point) -> Option<u32> {
+        let first = *self.edges.get(place)?;
+        if edges.get(first as usize)?.from == position {
+            Some(first)
+        } else {
+            None
+        }
     }
 }
 
@@ -84,7 +103,15 @@ pub(super) fn found_after(edges: &[HalfEdge], edge: &HalfEdge) -> Option<Followi
 /// Whether no edge beside the one of this number begins at a position.
 #[inline]
 fn begins_alone(edges: &[HalfEdge], number: usize, position: Point) -> bool {
-    let before = edges.get(number.wrapping_sub(1)).map(|edge| edge.from);
-    let after = edges.get(number.saturating_add(1)).map(|edge| edge.from);
-    before != Some(position) && after != Some(position)
+    !begins_at(edges, number.wrapping_sub(1), position)
+        && !begins_at(edges, number.saturating_add(1), position)
+}
+
+/// Whether there is an edge of this number, and it begins at a position.
+#[inline]
+fn begins_at(edges: &[HalfEdge], number: usize, position: Point) -> bool {
+    match edges.get(number) {
+        Some(edge) => edge.from == position,
+        None => false,
+    }
 }

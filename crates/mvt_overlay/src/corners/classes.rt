@@ -1,9 +1,9 @@
 //! Which rings may be joined where they touch.
 
 use crate::boundary::Traced;
+use crate::corners::Apart;
 use crate::groups::Groups;
-use crate::segment::HalfEdge;
-use mvt_fault::Profile;
+use mvt_segments::HalfEdge;
 use std::alloc::{AllocError, Global};
 
 /// Of each ring the class of its part: by `polygon` each part is one, by `feature` parts with edges
@@ -11,22 +11,18 @@ use std::alloc::{AllocError, Global};
 /// is that memory was refused.
 pub(crate) fn classes_of(
     alloc: Global,
-    profile: Profile,
+    apart: Apart,
     edges: &[HalfEdge],
     traced: &Traced,
 ) -> Result<Option<Vec<u32>>, AllocError> {
     let exteriors = Vec::from_slice(alloc, &traced.exteriors)?;
-    if profile != Profile::Feature {
+    if apart != Apart::AllRings {
         return Ok(Some(exteriors));
     }
     let mut groups = Groups::new(alloc, exteriors.len())?;
     let sources = sources_of(alloc, edges, traced)?;
-    for at in 1..sources.len() {
-        let (source, part) = sources[at];
-        let (before, other) = sources[at - 1];
-        if source == before && groups.join(part, other).is_none() {
-            return Ok(None);
-        }
+    if !join_those_of_one(&mut groups, &sources) {
+        return Ok(None);
     }
     let mut classes = Vec::with_capacity(alloc, exteriors.len())?;
     for part in exteriors {
@@ -36,6 +32,19 @@ pub(crate) fn classes_of(
         classes.push(class)?;
     }
     Ok(Some(classes))
+}
+
+/// Joins parts that have edges of one source, given in the order of sources. Returns whether all are
+/// there.
+fn join_those_of_one(groups: &mut Groups, sources: &[(u32, u32)]) -> bool {
+    for at in 1..sources.len() {
+        let (source, part) = sources[at];
+        let (before, other) = sources[at - 1];
+        if source == before && groups.join(part, other).is_none() {
+            return false;
+        }
+    }
+    true
 }
 
 /// The sources of edges, each with the parts that have an edge of it, in the order of the sources.
@@ -51,15 +60,23 @@ fn sources_of(
         let Some(part) = part_of(traced, number) else {
             continue;
         };
-        if let Some(known) = last.get_mut(part as usize) {
-            if *known != Some(source) {
-                *known = Some(source);
-                sources.push((source, part))?;
-            }
+        if is_new_source(&mut last, part, source) {
+            sources.push((source, part))?;
         }
     }
-    sources.sort_unstable_by_key(|it| (it.0, it.1));
+    sources.sort_unstable();
     Ok(sources)
+}
+
+/// Notes the source of an edge of a part, and returns whether it is another one than was noted last.
+fn is_new_source(last: &mut [Option<u32>], part: u32, source: u32) -> bool {
+    match last.get_mut(part as usize) {
+        Some(known) if *known != Some(source) => {
+            *known = Some(source);
+            true
+        }
+        _ => false,
+    }
 }
 
 /// The part of an edge: the number of the exterior of its ring.

@@ -4,10 +4,9 @@ ghost use Rattle.std.specs.Prelude.{◌≤◌};
 use crate::boundary::{Boundary, Renumbered, Touch, first_from, is_vertex, links_after, merged};
 use crate::corners::sail::{Corner, Direction, det, sail};
 use crate::corners::wedge::{Wedge, position_at, step_between};
-use crate::numbers::short;
-use crate::segment::HalfEdge;
-use crate::work::Work;
+use crate::lists::mark;
 use mvt_plane::{Point, side, sweep_key};
+use mvt_segments::{HalfEdge, Work};
 use std::alloc::{AllocError, Global};
 use std::ops::Range;
 
@@ -44,6 +43,12 @@ impl Cone {
             left,
             left_count,
         })
+    }
+
+    /// Whether what is between two positions is nearer to the right side than to the left one.
+    #[inline]
+    fn is_nearer_right_of(&self, tip: Point, one: Point, other: Point) -> bool {
+        self.is_nearer_right(step_between(tip, one), step_between(tip, other))
     }
 
     /// Whether what is between two steps from the tip is nearer to the right side than to the left
@@ -90,13 +95,15 @@ impl Cuts {
         let mut stale = changed;
         for spoke in &boundary.links.spokes {
             if spoke.leaves {
-                mark(&mut stale, spoke.edge);
+                mark(&mut stale, spoke.edge as usize);
             }
         }
         let Boundary { edges, links } = boundary;
         let Renumbered { edges, numbers } = merged(alloc, edges, removed, added)?;
-        let links = links_after(alloc, &edges, links, &numbers, &stale)?;
-        Ok(links.map(|links| Boundary { edges, links }))
+        match links_after(alloc, &edges, links, &numbers, &stale)? {
+            Some(links) => Ok(Some(Boundary { edges, links })),
+            None => Ok(None),
+        }
     }
 
     /// Cuts a wedge, if it is less than half a turn: its tip gives way to the sail of its cone.
@@ -133,25 +140,24 @@ impl Cuts {
 
     /// Takes away both edges of a wedge.
     fn remove(&mut self, edges: &[HalfEdge], wedge: &Wedge) {
-        for number in [wedge.right.edge, wedge.left.edge] {
-            mark(&mut self.removed, number);
-        }
-        for position in [wedge.tip, wedge.right.to, wedge.left.to] {
-            self.mark_changed(edges, position);
-        }
+        mark(&mut self.removed, wedge.right.edge as usize);
+        mark(&mut self.removed, wedge.left.edge as usize);
+        self.mark_changed(edges, wedge.tip);
+        self.mark_changed(edges, wedge.right.to);
+        self.mark_changed(edges, wedge.left.to);
     }
 
     /// Notes that an edge at a position was taken away or added.
     fn mark_changed(&mut self, edges: &[HalfEdge], position: Point) {
         let first = first_from(edges, sweep_key(position));
-        let Some(begin) = edges.get(first).map(|edge| edge.from) else {
+        let Some(begin) = edges.get(first) else {
             return;
         };
         for number in first..edges.len() {
-            if edges.get(number).map(|edge| edge.from) != Some(begin) {
+            if edges[number].from != begin.from {
                 return;
             }
-            mark(&mut self.changed, short(number));
+            mark(&mut self.changed, number);
         }
     }
 
@@ -169,38 +175,28 @@ impl Cuts {
         ) else {
             return Ok(());
         };
+        let source = right.source.max(left.source);
         for at in 1..line.len() {
-            let one = line[at - 1];
-            let other = line[at];
-            let nearer_right = cone.is_nearer_right(
-                step_between(wedge.tip, one),
-                step_between(wedge.tip, other),
-            );
+            let (one, other) = (line[at - 1], line[at]);
             let (from, to) = if wedge.is_filled() {
                 (other, one)
             } else {
                 (one, other)
             };
+            let beside = if cone.is_nearer_right_of(wedge.tip, one, other) {
+                right
+            } else {
+                left
+            };
             self.added.push(HalfEdge {
                 from,
                 to,
-                source: right.source.max(left.source),
-                witness: if nearer_right {
-                    right.witness
-                } else {
-                    left.witness
-                },
+                source,
+                witness: beside.witness,
                 part: right.part,
             })?;
         }
         Ok(())
-    }
-}
-
-/// Marks the edge of this number.
-fn mark(marks: &mut [bool], number: u32) {
-    if let Some(mark) = marks.get_mut(number as usize) {
-        *mark = true;
     }
 }
 
@@ -301,21 +297,29 @@ fn add_by_vertices(
     to: Point,
     line: &mut Vec<Point>,
 ) -> Result<(), AllocError> {
-    let mut last = from;
     let begin = line.len();
-    for number in numbers {
-        let Some(edge) = edges.get(number) else {
-            break;
-        };
-        if edge.from != last && side(from, to, edge.from).is_eq() {
-            line.push(edge.from)?;
-        }
-        last = edge.from;
-    }
+    add_on_line(edges.get(numbers).unwrap_or_default(), from, to, line)?;
     if sweep_key(to) < sweep_key(from) {
         if let Some(found) = line.as_mut_slice().get_mut(begin..) {
             found.reverse();
         }
+    }
+    Ok(())
+}
+
+/// Adds the first ends of edges, which are in their order, that are on the line between two positions.
+fn add_on_line(
+    edges: &[HalfEdge],
+    from: Point,
+    to: Point,
+    line: &mut Vec<Point>,
+) -> Result<(), AllocError> {
+    let mut last = from;
+    for edge in edges {
+        if edge.from != last && side(from, to, edge.from).is_eq() {
+            line.push(edge.from)?;
+        }
+        last = edge.from;
     }
     Ok(())
 }

@@ -8,14 +8,14 @@
 use std::alloc::{AllocError, Global};
 
 /// A step of the grid, from -2^31 to 2^31 along each axis.
-#[derive(Clone, Copy, Debug, PartialEq, Eq)]
+#[derive(Clone, Copy, PartialEq, Eq)]
 pub(crate) struct Direction {
     pub(crate) x: i64,
     pub(crate) y: i64,
 }
 
 /// A corner of a sail.
-#[derive(Clone, Copy, Debug, PartialEq, Eq)]
+#[derive(Clone, Copy)]
 pub(crate) struct Corner {
     pub(crate) at: Direction,
     /// How many steps of the grid it is from the corner before; 0 at the first one.
@@ -117,11 +117,10 @@ fn euclid(one: i64, other: i64) -> Option<Bezout> {
 impl Bezout {
     /// This one less so many of another one.
     fn less(&self, count: i64, other: &Bezout) -> Bezout {
-        let less = |one: i64, other: i64| one.wrapping_sub(count.wrapping_mul(other));
         Bezout {
-            divisor: less(self.divisor, other.divisor),
-            first: less(self.first, other.first),
-            second: less(self.second, other.second),
+            divisor: less(self.divisor, count, other.divisor),
+            first: less(self.first, count, other.first),
+            second: less(self.second, count, other.second),
         }
     }
 
@@ -139,6 +138,12 @@ impl Bezout {
             second: self.second.wrapping_neg(),
         })
     }
+}
+
+/// A number less so many times another one.
+#[inline]
+fn less(one: i64, count: i64, other: i64) -> i64 {
+    one.wrapping_sub(count.wrapping_mul(other))
 }
 
 /// The corners of the sail of the cone from `right` counterclockwise to `left`, which are

@@ -1,10 +1,11 @@
 //! Which wedges are cut at a position where rings touch.
 
 use crate::boundary::Spoke;
+use crate::corners::Apart;
 use crate::corners::wedge::Wedge;
-use crate::segment::HalfEdge;
-use mvt_fault::Profile;
+use crate::lists::mark;
 use mvt_plane::Point;
+use mvt_segments::HalfEdge;
 use std::alloc::{AllocError, Global};
 
 /// The edges round a position: filled and empty wedges in turn, from a filled one on.
@@ -80,15 +81,15 @@ impl Claim {
 }
 
 impl<'a> Star<'a> {
-    /// The wedges that are to be cut here so that rings of one class, or by the profile `feature`
+    /// The wedges that are to be cut here so that rings of one class, or by `Apart::AllRings`
     /// any, don't touch any more. Where all are of one class, what is filled is joined: a lake that
-    /// touches the shore stays a lake. Else what is filled is drawn apart, and by `feature` joined
-    /// where that would take a triangle away whole. If it is `shrinking`, only filled wedges are
+    /// touches the shore stays a lake. Else what is filled is drawn apart, and by `Apart::AllRings`
+    /// joined where that would take a triangle away whole. If it is `shrinking`, only filled wedges are
     /// cut, which must come to an end. The only error is that memory was refused.
     pub(crate) fn wedges_to_cut(
         &self,
         alloc: Global,
-        profile: Profile,
+        apart: Apart,
         shrinking: bool,
         edges: &[HalfEdge],
     ) -> Result<Vec<Wedge>, AllocError> {
@@ -96,8 +97,8 @@ impl<'a> Star<'a> {
             return Ok(self.joining(alloc, edges)?.wedges);
         }
         let bunches = self.bunches(alloc, shrinking, edges)?;
-        let kept = kept_of(alloc, profile, &bunches)?;
-        if !shrinking && profile == Profile::Feature && takes_all(&bunches, &kept) {
+        let kept = kept_of(alloc, apart, &bunches)?;
+        if !shrinking && apart == Apart::AllRings && takes_all(&bunches, &kept) {
             let joining = self.joining(alloc, edges)?;
             if !joining.loses {
                 return Ok(joining.wedges);
@@ -108,15 +109,12 @@ impl<'a> Star<'a> {
 
     /// The wedge that begins with the spoke of this number.
     fn wedge(&self, number: usize) -> Option<Wedge> {
-        let right = *self.spokes.get(number)?;
-        let left = match self.spokes.get(number.wrapping_add(1)) {
-            Some(left) => *left,
-            None => *self.spokes.first()?,
-        };
+        let next = number.wrapping_add(1);
+        let next = if next == self.spokes.len() { 0 } else { next };
         Some(Wedge {
             tip: self.tip,
-            right,
-            left,
+            right: *self.spokes.get(number)?,
+            left: *self.spokes.get(next)?,
         })
     }
 
@@ -130,9 +128,15 @@ impl<'a> Star<'a> {
 
     /// Whether all filled wedges are of one class.
     fn is_of_one_class(&self) -> bool {
-        self.classes
-            .iter()
-            .all(|class| self.classes.first() == Some(class))
+        let Some(first) = self.classes.first() else {
+            return true;
+        };
+        for class in &self.classes {
+            if *class != *first {
+                return false;
+            }
+        }
+        true
     }
 
     /// The empty wedges, all but one: the one of half a turn or more, else one whose ring would
@@ -244,40 +248,37 @@ impl<'a> Star<'a> {
     ) -> Result<Vec<Wedge>, AllocError> {
         let mut wedges = Vec::new(alloc);
         for at in 0..bunches.len() {
-            let bunch = bunches[at];
-            let is_kept = kept.get(at) == Some(&true);
-            let count = if is_kept {
-                bunch.claim.count.saturating_sub(1)
+            let Bunch { first, claim, .. } = bunches[at];
+            if kept.get(at) == Some(&true) {
+                self.add_wedges(first, claim.count.saturating_sub(1), 1, &mut wedges)?;
             } else {
-                bunch.claim.count
-            };
-            for step in 0..count {
-                let filled = self.filled_after(bunch.first, step).wrapping_mul(2);
-                let number = if is_kept {
-                    filled.wrapping_add(1)
-                } else {
-                    filled
-                };
-                if let Some(wedge) = self.wedge(number) {
-                    wedges.push(wedge)?;
-                }
+                self.add_wedges(first, claim.count, 0, &mut wedges)?;
             }
         }
         Ok(wedges)
     }
+
+    /// Adds so many filled wedges from one on, or the wedges that are `beside` them.
+    fn add_wedges(
+        &self,
+        first: usize,
+        count: usize,
+        beside: usize,
+        wedges: &mut Vec<Wedge>,
+    ) -> Result<(), AllocError> {
+        for step in 0..count {
+            let filled = self.filled_after(first, step).wrapping_mul(2);
+            if let Some(wedge) = self.wedge(filled.wrapping_add(beside)) {
+                wedges.push(wedge)?;
+            }
+        }
+        Ok(())
+    }
 }
 
 /// Of each bunch whether it is kept: by `polygon` the best of each class, by `feature` the best.
-fn kept_of(alloc: Global, profile: Profile, bunches: &[Bunch]) -> Result<Vec<bool>, AllocError> {
-    let mut order = Vec::with_capacity(alloc, bunches.len())?;
-    for number in 0..bunches.len() {
-        let group = match profile {
-            Profile::Feature => 0,
-            _ => bunches[number].class,
-        };
-        order.push((group, number))?;
-    }
-    order.sort_unstable_by_key(|it| (it.0, it.1));
+fn kept_of(alloc: Global, apart: Apart, bunches: &[Bunch]) -> Result<Vec<bool>, AllocError> {
+    let order = in_groups(alloc, apart, bunches)?;
     let mut kept = vec![in alloc; false; bunches.len()]?;
     let mut best: Option<(u32, usize)> = None;
     for at in 0..order.len() {
@@ -296,6 +297,24 @@ fn kept_of(alloc: Global, profile: Profile, bunches: &[Bunch]) -> Result<Vec<boo
     Ok(kept)
 }
 
+/// The numbers of bunches with their groups, of each of which one is kept, in their order.
+fn in_groups(
+    alloc: Global,
+    apart: Apart,
+    bunches: &[Bunch],
+) -> Result<Vec<(u32, usize)>, AllocError> {
+    let mut order = Vec::with_capacity(alloc, bunches.len())?;
+    for number in 0..bunches.len() {
+        let group = match apart {
+            Apart::AllRings => 0,
+            _ => bunches[number].class,
+        };
+        order.push((group, number))?;
+    }
+    order.sort_unstable();
+    Ok(order)
+}
+
 /// The number of the bunch that is to be kept of two.
 fn better_of(bunches: &[Bunch], one: usize, other: usize) -> usize {
     match (bunches.get(one), bunches.get(other)) {
@@ -307,9 +326,7 @@ fn better_of(bunches: &[Bunch], one: usize, other: usize) -> usize {
 /// Notes that the best of a group is kept.
 fn keep(kept: &mut [bool], best: Option<(u32, usize)>) {
     if let Some((_, number)) = best {
-        if let Some(mark) = kept.get_mut(number) {
-            *mark = true;
-        }
+        mark(kept, number);
     }
 }
 

@@ -2,13 +2,11 @@
 
 mod generated;
 
-use super::{add_polygons_apart, cuts_of};
+use super::{Apart, add_polygons_apart, cuts_of};
 use crate::boundary::{Boundary, add_outlines, trace};
 use crate::outlines::Outlines;
-use crate::segment::{HalfEdge, Keyed, Tally};
-use crate::work::Work;
-use mvt_fault::Profile;
 use mvt_plane::{Point, twice_area};
+use mvt_segments::{HalfEdge, Keyed, Tally, Work};
 use std::alloc::Global;
 use std::process::Abort;
 
@@ -272,7 +270,7 @@ fn no_outlines(alloc: Global) -> Outlines {
 fn polygons_apart(
     rt: &impl Abort,
     alloc: Global,
-    profile: Profile,
+    apart: Apart,
     edges: Vec<HalfEdge>,
 ) -> (Vec<Vec<Vec<Point>>>, u64) {
     let mut work = Work::new(100_000);
@@ -281,7 +279,7 @@ fn polygons_apart(
         cuts: 0,
     };
     let mut outlines = no_outlines(alloc);
-    let done = add_polygons_apart(alloc, profile, edges, &mut work, &mut tally, &mut outlines);
+    let done = add_polygons_apart(alloc, apart, edges, &mut work, &mut tally, &mut outlines);
     assert!(rt; done.expect(rt, "memory"));
     let mut vertices: usize = 0;
     for ring in &outlines.rings {
@@ -295,12 +293,12 @@ fn polygons_apart(
 fn assert_apart(
     rt: &impl Abort,
     alloc: Global,
-    profile: Profile,
+    apart: Apart,
     rings: &[(u32, Coordinates)],
     wanted: (Polygons, u64),
 ) {
     let edges = edges_of(rt, alloc, rings);
-    let (found, cuts) = polygons_apart(rt, alloc, profile, edges);
+    let (found, cuts) = polygons_apart(rt, alloc, apart, edges);
     assert_polygons(rt, &found, wanted.0);
     assert!(rt; cuts == wanted.1);
 }
@@ -311,7 +309,7 @@ fn examples_by_polygon(rt: HostRuntime) {
         assert_apart(
             &rt,
             rt.alloc(),
-            Profile::Polygon,
+            Apart::RingsOfOne,
             example.rings,
             example.by_polygon,
         );
@@ -324,7 +322,7 @@ fn examples_by_feature(rt: HostRuntime) {
         assert_apart(
             &rt,
             rt.alloc(),
-            Profile::Feature,
+            Apart::AllRings,
             example.rings,
             example.by_feature,
         );
@@ -343,7 +341,7 @@ fn witnesses_of_a_cut(rt: HostRuntime) {
     let edges = edges_of(&rt, rt.alloc(), TWO_TRIANGLES.rings);
     let done = add_polygons_apart(
         rt.alloc(),
-        Profile::Feature,
+        Apart::AllRings,
         edges,
         &mut work,
         &mut tally,
@@ -360,7 +358,7 @@ fn witnesses_of_a_cut(rt: HostRuntime) {
 fn polygons_shrunk(
     rt: &impl Abort,
     alloc: Global,
-    profile: Profile,
+    apart: Apart,
     edges: Vec<HalfEdge>,
 ) -> (Vec<Vec<Vec<Point>>>, u64) {
     let mut work = Work::new(100_000);
@@ -371,7 +369,7 @@ fn polygons_shrunk(
         let traced = trace(alloc, &boundary.edges, &boundary.links, &mut work)
             .expect(rt, "memory")
             .expect(rt, "rings");
-        let cuts = cuts_of(alloc, profile, true, &boundary, &traced, &mut work)
+        let cuts = cuts_of(alloc, apart, true, &boundary, &traced, &mut work)
             .expect(rt, "memory")
             .expect(rt, "work");
         if cuts.count == 0 {
@@ -405,9 +403,9 @@ const ONE_LAKE: Polygons = &[&[
 // What is filled is parted where two lakes touch.
 #[test]
 fn shrinking(rt: HostRuntime) {
-    for profile in [Profile::Polygon, Profile::Feature] {
+    for apart in [Apart::RingsOfOne, Apart::AllRings] {
         let edges = edges_of(&rt, rt.alloc(), TWO_LAKES.rings);
-        let (found, cuts) = polygons_shrunk(&rt, rt.alloc(), profile, edges);
+        let (found, cuts) = polygons_shrunk(&rt, rt.alloc(), apart, edges);
         assert_polygons(&rt, &found, ONE_LAKE);
         assert!(rt; cuts == 1);
     }
@@ -425,7 +423,7 @@ fn no_work(rt: HostRuntime) {
     let edges = edges_of(&rt, rt.alloc(), LAKE_AT_THE_SHORE.rings);
     let done = add_polygons_apart(
         rt.alloc(),
-        Profile::Polygon,
+        Apart::RingsOfOne,
         edges,
         &mut work,
         &mut tally,
@@ -448,7 +446,7 @@ fn no_boundary(rt: HostRuntime) {
     let _ = edges.pop();
     let done = add_polygons_apart(
         rt.alloc(),
-        Profile::Polygon,
+        Apart::RingsOfOne,
         edges,
         &mut work,
         &mut tally,

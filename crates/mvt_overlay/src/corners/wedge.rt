@@ -2,11 +2,11 @@
 
 use crate::boundary::{Spoke, number_of};
 use crate::corners::sail::{Direction, det};
-use crate::segment::HalfEdge;
 use mvt_plane::{Point, side};
+use mvt_segments::HalfEdge;
 
 /// The wedge from the spoke on its right counterclockwise to the one on its left.
-#[derive(Clone, Copy, Debug, PartialEq, Eq)]
+#[derive(Clone, Copy)]
 pub(crate) struct Wedge {
     pub(crate) tip: Point,
     pub(crate) right: Spoke,

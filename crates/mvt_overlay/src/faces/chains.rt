@@ -9,10 +9,9 @@
 mod tree;
 
 use crate::faces::NO_SEGMENT;
-use crate::faces::stop::Stop;
-use crate::segment::Segment;
-use crate::work::Work;
+use crate::faces::stop::{Stop, numbered};
 use mvt_plane::{Point, sweep_key};
+use mvt_segments::{Segment, Work};
 use std::alloc::Global;
 
 /// What is outside of all chains: below the lowest one and above the highest one. In the tree it is
@@ -199,9 +198,7 @@ impl Chains {
             self.free = next;
             return Ok(free);
         }
-        let Ok(number) = u32::try_from(self.chains.len()) else {
-            return Err(Stop::GaveUp);
-        };
+        let number = numbered(self.chains.len())?;
         let priority = scattered(number);
         self.chains.push(Chain { priority, ..chain })?;
         Ok(number)

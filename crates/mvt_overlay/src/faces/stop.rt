@@ -2,11 +2,11 @@
 
 ghost use Rattle.std.specs.Prelude.{◌≤◌};
 
-use crate::work::Work;
+use mvt_segments::Work;
 use std::alloc::{AllocError, AllocFailed};
 
 /// Why a search ends with no answer.
-#[derive(Clone, Copy, Debug, PartialEq, Eq)]
+#[derive(Clone, Copy)]
 pub(crate) enum Stop {
     /// Memory was refused.
     Memory,
@@ -23,6 +23,27 @@ impl From<AllocError> for Stop {
 impl<T: Drop> From<AllocFailed<T>> for Stop {
     fn from(_refused: AllocFailed<T>) -> Stop {
         Stop::Memory
+    }
+}
+
+/// Puts a number at a place of a list, or gives up where there is none.
+#[inline]
+pub(crate) fn put(list: &mut [u32], place: u32, number: u32) -> Result<(), Stop> {
+    match list.get_mut(place as usize) {
+        Some(there) => {
+            *there = number;
+            Ok(())
+        }
+        None => Err(Stop::GaveUp),
+    }
+}
+
+/// A place as a number of 32 bits, or gives up where it has more.
+#[inline]
+pub(crate) fn numbered(place: usize) -> Result<u32, Stop> {
+    match u32::try_from(place) {
+        Ok(number) => Ok(number),
+        Err(_) => Err(Stop::GaveUp),
     }
 }
 

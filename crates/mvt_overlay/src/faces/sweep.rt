@@ -3,10 +3,9 @@
 
 use crate::faces::NO_SEGMENT;
 use crate::faces::chains::{Chains, OUTSIDE};
-use crate::faces::stop::Stop;
-use crate::segment::Segment;
-use crate::work::Work;
+use crate::faces::stop::{Stop, numbered, put};
 use mvt_plane::{Point, side, sweep_key};
+use mvt_segments::{Segment, Work};
 use std::alloc::Global;
 
 /// What is noted while the line goes over segments.
@@ -22,6 +21,10 @@ pub(crate) trait Notes {
         like: Option<u32>,
         work: &mut Work,
     ) -> Result<(), Stop>;
+
+    /// The segment of this number begins where one ends, and no other one does either: it has on its
+    /// sides what that one has. `below` is as for `begin`.
+    fn follow(&mut self, number: u32, below: u32, ended: u32, work: &mut Work) -> Result<(), Stop>;
 
     /// What is directly above one segment is what is directly above another one too, as they show
     /// at a position where the other ends and none begins. The one may be none.
@@ -193,6 +196,17 @@ impl<'a> Line<'a> {
             }
         }
         self.list_begun(begin, after)?;
+        self.pass_listed(key, ended, notes, work)
+    }
+
+    /// The same, where the segments that begin there were listed.
+    fn pass_listed<N: Notes>(
+        &mut self,
+        key: i64,
+        ended: &[u32],
+        notes: &mut N,
+        work: &mut Work,
+    ) -> Result<(), Stop> {
         let chain = self.chain_below(key, ended, work)?;
         let below = self.chains.segment(chain)?;
         let highest = self.highest_ended(chain, below, ended)?;
@@ -213,18 +227,30 @@ impl<'a> Line<'a> {
         notes: &mut N,
         work: &mut Work,
     ) -> Result<(), Stop> {
+        let (chain, under) = self.chain_alone(key, ended)?;
+        let number = numbered(begun)?;
+        self.take_over(chain, number)?;
+        notes.follow(number, under, ended, work)
+    }
+
+    /// The chain of the only segment that ends at the position of a key, and the segment directly below
+    /// it.
+    #[inline]
+    fn chain_alone(&self, key: i64, ended: u32) -> Result<(u32, u32), Stop> {
         let chain = self.chain_ended(ended)?;
         let below = self.chains.below(chain)?;
         if self.chains.ends_at(below, key)? || !self.chains.ends_at(chain, key)? {
             return Err(Stop::GaveUp);
         }
-        let under = self.chains.segment(below)?;
-        let number = u32::try_from(begun).map_err(|_| Stop::GaveUp)?;
+        Ok((chain, self.chains.segment(below)?))
+    }
+
+    /// A chain, whose segment ends, goes on with another one.
+    #[inline]
+    fn take_over(&mut self, chain: u32, number: u32) -> Result<(), Stop> {
         let segment = self.segment(number)?;
         self.chains.go_on(chain, number, segment)?;
-        let place = self.chain_of.get_mut(begun);
-        *place.ok_or(Stop::GaveUp)? = chain;
-        notes.begin(number, under, Some(ended), work)
+        put(&mut self.chain_of, number, chain)
     }
 
     /// The segments that were listed begin, the lowest directly above a chain, and of the chains above
@@ -335,8 +361,7 @@ impl<'a> Line<'a> {
         } else {
             self.chains.begin_above(below, number, segment, work)?
         };
-        let place = self.chain_of.get_mut(number as usize);
-        *place.ok_or(Stop::GaveUp)? = chain;
+        put(&mut self.chain_of, number, chain)?;
         Ok(chain)
     }
 
@@ -351,19 +376,24 @@ impl<'a> Line<'a> {
     #[inline]
     fn list_begun(&mut self, begin: usize, after: usize) -> Result<(), Stop> {
         let begun = self.segments.get(begin..after).ok_or(Stop::GaveUp)?;
-        let mut number = u32::try_from(begin).map_err(|_| Stop::GaveUp)?;
+        let number = numbered(begin)?;
         self.begun.clear();
         if begun.len() > 2 {
             return self.list_by_slope(begun, number);
         }
+        self.list_few(begun, number)
+    }
+
+    /// The same of two segments at most, whose numbers begin with this one.
+    #[inline]
+    fn list_few(&mut self, begun: &[Segment], first: u32) -> Result<(), Stop> {
+        let mut number = first;
         for _ in begun {
             self.begun.push(number)?;
             number = number.wrapping_add(1);
         }
-        if let [first, second] = begun {
-            if side(first.a, first.b, second.b).is_lt() {
-                self.begun.reverse();
-            }
+        if are_turned(begun) {
+            self.begun.reverse();
         }
         Ok(())
     }
@@ -371,17 +401,33 @@ impl<'a> Line<'a> {
     /// The same of segments whose numbers begin with this one, through a list of them with their
     /// slopes.
     fn list_by_slope(&mut self, begun: &[Segment], first: u32) -> Result<(), Stop> {
+        self.list_slopes(begun, first)?;
+        self.slopes.sort_unstable_by_key(|pair| pair.0);
+        for (_, number) in &self.slopes {
+            self.begun.push(*number)?;
+        }
+        Ok(())
+    }
+
+    /// Lists the slopes of these segments with their numbers.
+    fn list_slopes(&mut self, begun: &[Segment], first: u32) -> Result<(), Stop> {
         self.slopes.clear();
         let mut number = first;
         for segment in begun {
             self.slopes.push((slope(segment.a, segment.b), number))?;
             number = number.wrapping_add(1);
         }
-        self.slopes.sort_unstable_by_key(|pair| pair.0);
-        for (_, number) in &self.slopes {
-            self.begun.push(*number)?;
-        }
         Ok(())
+    }
+}
+
+/// Whether these are two segments that begin at one position, the second of which is below the first
+/// one.
+#[inline]
+fn are_turned(begun: &[Segment]) -> bool {
+    match begun {
+        [first, second] => side(first.a, first.b, second.b).is_lt(),
+        _ => false,
     }
 }
 

@@ -1,8 +1,6 @@
 use super::{NO_SEGMENT, directly_below, faces_of};
-use crate::order::ends_of;
-use crate::segment::{Segment, Winding};
-use crate::work::Work;
 use mvt_plane::{Point, orient, sweep_key};
+use mvt_segments::{Segment, Winding, Work, ends_of};
 use std::alloc::Global;
 use std::process::Abort;
 use std::test::Fail;

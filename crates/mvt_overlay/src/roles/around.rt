@@ -1,9 +1,8 @@
 //! Which rings are around the places just above and just below each segment of rings.
 
-use crate::faces::stop::{Stop, spend};
+use crate::faces::stop::{Stop, numbered, put, spend};
 use crate::faces::sweep::Notes;
-use crate::segment::Segment;
-use crate::work::Work;
+use mvt_segments::{Segment, Work};
 use std::alloc::{AllocError, Global};
 
 /// Around this place there is no ring.
@@ -24,6 +23,21 @@ struct Place {
 struct Vote {
     place: u32,
     lead: u32,
+}
+
+impl Vote {
+    /// Counts a segment that has a place.
+    #[inline]
+    fn count(&mut self, place: u32) {
+        if self.place == place {
+            self.lead = self.lead.saturating_add(1);
+        } else if self.lead == 0 {
+            self.place = place;
+            self.lead = 1;
+        } else {
+            self.lead -= 1;
+        }
+    }
 }
 
 /// What is noted of the rings around segments: going up over a segment of a ring leads into it, or
@@ -64,23 +78,23 @@ impl<'a> RingsAround<'a> {
         })
     }
 
-    /// The innermost of the rings around a ring of which `is_outer` holds, if there is one.
-    pub(super) fn innermost<F: Fn(u32) -> bool>(
+    /// The innermost of the rings around a ring whose places in an order are after this one, if there
+    /// is one.
+    pub(super) fn innermost_after(
         &self,
         ring: u32,
-        is_outer: &F,
+        places: &[usize],
+        after: usize,
         work: &mut Work,
-    ) -> Result<Option<u32>, Stop>
-        requires { F.IsAlwaysCallable is_outer.now }
-    {
+    ) -> Result<Option<u32>, Stop> {
         let vote = self.votes.get(ring as usize).ok_or(Stop::GaveUp)?;
         let mut at = vote.place;
-        for _ in 0..=self.places.len() {
+        for _ in 0..self.places.len().saturating_add(1) {
             let Some(place) = self.place(at) else {
                 return Ok(None);
             };
             spend(work, 1)?;
-            if is_outer(place.ring) {
+            if is_after(places, place.ring, after) {
                 return Ok(Some(place.ring));
             }
             at = place.outer;
@@ -100,22 +114,20 @@ impl<'a> RingsAround<'a> {
             Some(inner) if inner.ring == ring => inner.outer,
             _ => under,
         };
-        let vote = self.votes.get_mut(ring as usize).ok_or(Stop::GaveUp)?;
-        if vote.place == place {
-            vote.lead = vote.lead.saturating_add(1);
-        } else if vote.lead == 0 {
-            *vote = Vote { place, lead: 1 };
-        } else {
-            vote.lead -= 1;
+        match self.votes.get_mut(ring as usize) {
+            Some(vote) => {
+                vote.count(place);
+                Ok(())
+            }
+            None => Err(Stop::GaveUp),
         }
-        Ok(())
     }
 
     /// The place on the other side of a segment of a ring.
     fn across(&mut self, under: u32, ring: u32, work: &mut Work) -> Result<u32, Stop> {
         self.passed.clear();
         let mut at = under;
-        for _ in 0..=self.places.len() {
+        for _ in 0..self.places.len().saturating_add(1) {
             let Some(place) = self.place(at) else {
                 return self.inside(ring, under);
             };
@@ -142,14 +154,24 @@ impl<'a> RingsAround<'a> {
     /// The place that is also within this ring.
     fn inside(&mut self, ring: u32, outer: u32) -> Result<u32, Stop> {
         let last = *self.last_place.get(ring as usize).ok_or(Stop::GaveUp)?;
-        if self.place(last).is_some_and(|place| place.outer == outer) {
-            return Ok(last);
+        if let Some(place) = self.place(last) {
+            if place.outer == outer {
+                return Ok(last);
+            }
         }
-        let number = u32::try_from(self.places.len()).map_err(|_| Stop::GaveUp)?;
+        let number = numbered(self.places.len())?;
         self.places.push(Place { ring, outer })?;
-        let last = self.last_place.get_mut(ring as usize);
-        *last.ok_or(Stop::GaveUp)? = number;
+        put(&mut self.last_place, ring, number)?;
         Ok(number)
+    }
+}
+
+/// Whether the place of a ring in an order is after another one.
+#[inline]
+fn is_after(places: &[usize], ring: u32, after: usize) -> bool {
+    match places.get(ring as usize) {
+        Some(place) => *place > after,
+        None => false,
     }
 }
 
@@ -166,9 +188,11 @@ impl Notes for RingsAround<'_> {
         let ring = segment.source;
         self.vote(ring, under)?;
         let over = self.across(under, ring, work)?;
-        let above = self.above.get_mut(number as usize);
-        *above.ok_or(Stop::GaveUp)? = over;
-        Ok(())
+        put(&mut self.above, number, over)
+    }
+
+    fn follow(&mut self, number: u32, below: u32, ended: u32, work: &mut Work) -> Result<(), Stop> {
+        self.begin(number, below, Some(ended), work)
     }
 
     fn go_on(&mut self, _one: u32, _other: u32) -> Result<(), Stop> {

@@ -21,14 +21,20 @@ pub(super) fn drawn_rings(
 
 /// The positions that differ from the one before.
 fn without_repeats(alloc: Global, ring: &[Point]) -> Result<Vec<Point>, AllocError> {
+    let mut kept = kept_of(alloc, ring)?;
+    if kept.len() > 1 && kept.first() == kept.last() {
+        kept.pop();
+    }
+    Ok(kept)
+}
+
+/// The same, where the last one may be the first one again.
+fn kept_of(alloc: Global, ring: &[Point]) -> Result<Vec<Point>, AllocError> {
     let mut kept = Vec::with_capacity(alloc, ring.len())?;
     for position in ring {
         if kept.last() != Some(position) {
             kept.push(*position)?;
         }
-    }
-    if kept.len() > 1 && kept.first() == kept.last() {
-        kept.pop();
     }
     Ok(kept)
 }

@@ -1,13 +1,12 @@
 //! Which ring is directly around each of several.
 
-use crate::faces::stop::Stop;
+use crate::faces::stop::{Stop, numbered, put};
 use crate::faces::sweep::sweep;
-use crate::order::{ends_of, sorted_by_ends};
+use crate::lists::mark;
 use crate::roles::around::RingsAround;
 use crate::roles::tested::parents_by_tests;
-use crate::segment::{Segment, Winding};
-use crate::work::Work;
 use mvt_plane::{Point, sweep_key, twice_area};
+use mvt_segments::{Segment, Winding, Work, ends_of, sorted_by_ends};
 use std::alloc::{AllocError, Global};
 
 /// The number of no ring.
@@ -48,16 +47,19 @@ impl Nesting {
     pub(super) fn are_odd(&self, alloc: Global) -> Result<Vec<bool>, AllocError> {
         let mut are_odd = vec![in alloc; false; self.parents.len()]?;
         for ring in self.order.iter().rev() {
-            let ring = *ring as usize;
-            let is_odd = match self.parent(ring) {
-                Some(parent) => !are_odd.get(parent).copied().unwrap_or(true),
-                None => false,
-            };
-            if let Some(place) = are_odd.get_mut(ring) {
-                *place = is_odd;
+            if self.is_odd(*ring, &are_odd) {
+                mark(&mut are_odd, *ring as usize);
             }
         }
         Ok(are_odd)
+    }
+
+    /// Whether a ring is in an odd number of others, where that is known of the one around it.
+    fn is_odd(&self, ring: u32, are_odd: &[bool]) -> bool {
+        match self.parent(ring as usize) {
+            Some(parent) => !are_odd.get(parent).copied().unwrap_or(true),
+            None => false,
+        }
     }
 
     /// Of each ring but the first ones, so many, the nearest of these around it, if there is one.
@@ -68,13 +70,8 @@ impl Nesting {
     ) -> Result<Vec<Option<u32>>, AllocError> {
         let mut nearest = vec![in alloc; None; self.parents.len()]?;
         for ring in self.order.iter().rev() {
-            let ring = *ring as usize;
-            let found = match self.parent(ring) {
-                Some(parent) if parent < first => u32::try_from(parent).ok(),
-                Some(parent) => nearest.get(parent).copied().flatten(),
-                None => None,
-            };
-            if let Some(place) = nearest.get_mut(ring) {
+            let found = self.nearest(*ring, first, &nearest);
+            if let Some(place) = nearest.get_mut(*ring as usize) {
                 *place = found;
             }
         }
@@ -82,6 +79,16 @@ impl Nesting {
         let mut of_later = Vec::with_capacity(alloc, later.len())?;
         of_later.extend_from_slice(later)?;
         Ok(of_later)
+    }
+
+    /// That of one ring, where it is known of the one around it.
+    fn nearest(&self, ring: u32, first: usize, nearest: &[Option<u32>]) -> Option<u32> {
+        let parent = self.parent(ring as usize)?;
+        if parent < first {
+            u32::try_from(parent).ok()
+        } else {
+            *nearest.get(parent)?
+        }
     }
 }
 
@@ -91,16 +98,20 @@ fn by_size(alloc: Global, rings: &[&[Point]]) -> Result<Vec<u32>, Stop> {
     for (number, ring) in rings.iter().enumerate() {
         let size = twice_area(ring).unsigned_abs();
         if size > 0 {
-            let number = u32::try_from(number).map_err(|_| Stop::GaveUp)?;
-            sizes.push((size, number))?;
+            sizes.push((size, numbered(number)?))?;
         }
     }
     sizes.sort_unstable_by_key(|pair| pair.0);
-    let mut order = Vec::with_capacity(alloc, sizes.len())?;
-    for (_, number) in &sizes {
-        order.push(*number)?;
+    numbers_of(alloc, &sizes)
+}
+
+/// The numbers of pairs.
+fn numbers_of(alloc: Global, pairs: &[(u128, u32)]) -> Result<Vec<u32>, Stop> {
+    let mut numbers = Vec::with_capacity(alloc, pairs.len())?;
+    for (_, number) in pairs {
+        numbers.push(*number)?;
     }
-    Ok(order)
+    Ok(numbers)
 }
 
 /// By the number of each ring, that of the innermost one around it that comes after it in this
@@ -115,13 +126,22 @@ fn parents_by_sweep(
     let mut around = RingsAround::new(alloc, &segments, rings.len())?;
     let ends = ends_of(alloc, &segments)?;
     sweep(alloc, &segments, &ends, &mut around, work)?;
-    let places = places_in(alloc, order, rings.len())?;
-    let mut parents = vec![in alloc; NO_RING; rings.len()]?;
+    innermost_rings(alloc, &around, order, rings.len(), work)
+}
+
+/// The same, once it is noted what is around the edges of so many rings.
+fn innermost_rings(
+    alloc: Global,
+    around: &RingsAround,
+    order: &[u32],
+    rings: usize,
+    work: &mut Work,
+) -> Result<Vec<u32>, Stop> {
+    let places = places_in(alloc, order, rings)?;
+    let mut parents = vec![in alloc; NO_RING; rings]?;
     for (at, ring) in order.iter().enumerate() {
-        let comes_after = |other: u32| places.get(other as usize).is_some_and(|place| *place > at);
-        if let Some(parent) = around.innermost(*ring, &comes_after, work)? {
-            let place = parents.get_mut(*ring as usize);
-            *place.ok_or(Stop::GaveUp)? = parent;
+        if let Some(parent) = around.innermost_after(*ring, &places, at, work)? {
+            put(&mut parents, *ring, parent)?;
         }
     }
     Ok(parents)

@@ -1,9 +1,9 @@
 //! Which ring is around another one, by tests of some of its positions.
 
-use crate::faces::stop::{Stop, spend};
+use crate::faces::stop::{Stop, put, spend};
 use crate::roles::nesting::NO_RING;
-use crate::work::Work;
 use mvt_plane::{Point, inside};
+use mvt_segments::Work;
 use std::alloc::Global;
 
 /// So many positions of a ring are tested at most.
@@ -59,8 +59,7 @@ pub(super) fn parents_by_tests(
     }
     for at in 0..order.len() {
         let found = parent_by_tests(rings, &bounds, &order[at..], work)?;
-        let parent = parents.get_mut(order[at] as usize);
-        *parent.ok_or(Stop::GaveUp)? = found;
+        put(&mut parents, order[at], found)?;
     }
     Ok(parents)
 }
@@ -105,6 +104,11 @@ fn is_around(
     let inner = rings.get(inner).ok_or(Stop::GaveUp)?;
     let outer = rings.get(outer).ok_or(Stop::GaveUp)?;
     spend(work, (outer.len() as u64).saturating_mul(SAMPLES as u64))?;
+    Ok(is_mostly_inside(inner, outer))
+}
+
+/// Whether more than half of the tested positions of a ring are inside another one.
+fn is_mostly_inside(inner: &[Point], outer: &[Point]) -> bool {
     let mut inside_less_outside = 0_i32;
     for sample in 0..SAMPLES {
         let place = inner.len().saturating_mul(sample) / SAMPLES;
@@ -113,5 +117,5 @@ fn is_around(
             inside_less_outside = inside_less_outside.wrapping_add(step);
         }
     }
-    Ok(inside_less_outside > 0)
+    inside_less_outside > 0
 }

@@ -1,6 +1,6 @@
 use super::{homes_of_strays, polygons_meant};
-use crate::work::Work;
 use mvt_plane::Point;
+use mvt_segments::Work;
 use std::alloc::Global;
 use std::process::Abort;
 use std::test::Fail;

@@ -18,6 +18,16 @@ fn direction_of(number: i64) -> Direction {
     }
 }
 
+/// Whether two directions are the same.
+fn is_same(one: Direction, other: Direction) -> bool {
+    one.x == other.x && one.y == other.y
+}
+
+/// Whether a corner is there, and so many steps from the one before.
+fn is_corner(corner: &Corner, at: Direction, steps: i64) -> bool {
+    is_same(corner.at, at) && corner.steps == steps
+}
+
 /// Whether it is the shortest step in its direction.
 fn is_primitive(direction: Direction) -> bool {
     match direction.primitive() {
@@ -35,7 +45,7 @@ fn is_in_cone(right: Direction, left: Direction, direction: Direction) -> bool {
 fn assert_corners(rt: &impl Abort, corners: &[Corner], right: Direction, left: Direction) {
     let count = corners.len();
     assert!(rt; count >= 2);
-    assert!(rt; corners[0].at == right && corners[0].steps == 0 && corners[count - 1].at == left);
+    assert!(rt; is_corner(&corners[0], right, 0) && is_same(corners[count - 1].at, left));
     for at in 1..count {
         // steps of the grid, each of which spans an empty triangle with the tip
         let step = corners[at].at.minus(corners[at - 1].at);
@@ -126,14 +136,7 @@ fn sails_by_hand(rt: HostRuntime) {
         assert!(rt; corners.len() == wanted.len());
         for at in 0..wanted.len() {
             let (x, y, steps) = wanted[at];
-            let at_corner = Direction { x, y };
-            assert!(rt;
-                corners[at]
-                    == Corner {
-                        at: at_corner,
-                        steps
-                    }
-            );
+            assert!(rt; is_corner(&corners[at], Direction { x, y }, steps));
         }
     }
 }

@@ -1,9 +1,9 @@
 //! Cells of a grid filled at random: whatever touches there, what is left of it is apart.
 
 use super::{polygons_apart, polygons_shrunk};
-use crate::segment::{HalfEdge, Keyed};
-use mvt_fault::Profile;
+use crate::corners::Apart;
 use mvt_plane::{Count, Edge, Point, common, sweep_key};
+use mvt_segments::{HalfEdge, Keyed};
 use std::alloc::Global;
 use std::process::Abort;
 
@@ -160,7 +160,7 @@ fn assert_apart(rt: &impl Abort, edges: &[Edge]) {
 fn assert_polygons_apart(
     rt: &impl Abort,
     alloc: Global,
-    profile: Profile,
+    apart: Apart,
     polygons: &[Vec<Vec<Point>>],
 ) {
     let mut all = Vec::new(alloc);
@@ -170,20 +170,20 @@ fn assert_polygons_apart(
         assert_apart(rt, &own);
         add_edges(rt, polygon, &mut all);
     }
-    if profile == Profile::Feature {
+    if apart == Apart::AllRings {
         assert_apart(rt, &all);
     }
 }
 
 /// Asserts that what is left of filled cells is apart, also where only filled wedges
 /// are cut.
-fn assert_cells_apart(rt: &impl Abort, alloc: Global, profile: Profile, edges: &[HalfEdge]) {
+fn assert_cells_apart(rt: &impl Abort, alloc: Global, apart: Apart, edges: &[HalfEdge]) {
     let again = Vec::from_slice(alloc, edges).expect(rt, "memory");
     let edges = Vec::from_slice(alloc, edges).expect(rt, "memory");
-    let (found, _) = polygons_apart(rt, alloc, profile, edges);
-    assert_polygons_apart(rt, alloc, profile, &found);
-    let (found, _) = polygons_shrunk(rt, alloc, profile, again);
-    assert_polygons_apart(rt, alloc, profile, &found);
+    let (found, _) = polygons_apart(rt, alloc, apart, edges);
+    assert_polygons_apart(rt, alloc, apart, &found);
+    let (found, _) = polygons_shrunk(rt, alloc, apart, again);
+    assert_polygons_apart(rt, alloc, apart, &found);
 }
 
 #[test]
@@ -193,8 +193,8 @@ fn cells(rt: HostRuntime) {
         for _ in 0..60 {
             let cells = filled_cells(&rt, rt.alloc(), &mut dice);
             let edges = sides_of(&rt, rt.alloc(), &cells, placing, &mut dice);
-            assert_cells_apart(&rt, rt.alloc(), Profile::Polygon, &edges);
-            assert_cells_apart(&rt, rt.alloc(), Profile::Feature, &edges);
+            assert_cells_apart(&rt, rt.alloc(), Apart::RingsOfOne, &edges);
+            assert_cells_apart(&rt, rt.alloc(), Apart::AllRings, &edges);
         }
     }
 }

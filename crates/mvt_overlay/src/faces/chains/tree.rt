@@ -2,9 +2,25 @@
 
 use super::{Chain, Chains, OUTSIDE};
 use crate::faces::stop::{Stop, spend};
-use crate::segment::Segment;
-use crate::work::Work;
 use mvt_plane::side;
+use mvt_segments::{Segment, Work};
+
+impl Chain {
+    /// Whether it is below the position where segments begin, or where its line goes through that,
+    /// below the lowest one, or along that, below the highest one.
+    #[inline]
+    fn is_below(&self, lowest: &Segment, highest: &Segment) -> bool {
+        let begin = side(self.from, self.to, lowest.a);
+        if begin.is_ne() {
+            return begin.is_gt();
+        }
+        let end = side(self.from, self.to, lowest.b);
+        if end.is_ne() {
+            return end.is_gt();
+        }
+        side(self.from, self.to, highest.b).is_gt()
+    }
+}
 
 impl Chains {
     /// The highest chain that is below a position, or else what is outside. A chain whose line goes
@@ -24,10 +40,7 @@ impl Chains {
                 return Ok(below);
             }
             let chain = self.chain(at)?;
-            let place = side(chain.from, chain.to, lowest.a)
-                .then_with(|| side(chain.from, chain.to, lowest.b))
-                .then_with(|| side(chain.from, chain.to, highest.b));
-            if place.is_gt() {
+            if chain.is_below(lowest, highest) {
                 below = at;
                 at = chain.right;
             } else {

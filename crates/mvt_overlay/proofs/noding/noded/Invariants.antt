@@ -1,5 +1,0 @@
-use Rattle.std.proofs.Common.{◌≤◌}
-use Rattle.mvt_overlay.proofs.noding.noded.Given as goal
-
-abbrev pub invariant-loop : goal.invariant-loop
-invariant-loop l = l.work ≤ l.fn.work
