@@ -9,9 +9,6 @@ ghost use Rattle.mvt_fault.specs.Calls.Place.{IsOfPolygon};
 ghost use Rattle.mvt_fault.specs.declared.profile.Profile.{Profile};
 ghost use Rattle.mvt_rules.specs.Tile.{TileRecord, IsTile};
 
-#[cfg(test)]
-mod tests;
-
 use crate::geometry::{
     has_command_fault, has_meeting, has_ring_fault, has_vertex_in_hole, has_vertex_in_polygon,
     has_vertex_outside,

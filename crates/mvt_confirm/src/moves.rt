@@ -25,7 +25,10 @@ pub(crate) fn moved_x(from: Point, parameter: u32) -> Result<Point, CommandCode>
     ensures fault { IfErr result (IsNoMove from.x parameter) }
 {
     let x = moved(from.x(), parameter)?;
-    Point::new(x, from.y()).ok_or(CommandCode::OutOfBounds)
+    match Point::new(x, from.y()) {
+        Some(to) => Ok(to),
+        None => Err(CommandCode::OutOfBounds),
+    }
 }
 
 /// The position to which a parameter leads along the y axis.
@@ -38,7 +41,10 @@ pub(crate) fn moved_y(from: Point, parameter: u32) -> Result<Point, CommandCode>
     ensures fault { IfErr result (IsNoMove from.y parameter) }
 {
     let y = moved(from.y(), parameter)?;
-    Point::new(from.x(), y).ok_or(CommandCode::OutOfBounds)
+    match Point::new(from.x(), y) {
+        Some(to) => Ok(to),
+        None => Err(CommandCode::OutOfBounds),
+    }
 }
 
 /// The position to which the two parameters of a step lead; None where one of them isn't allowed.
@@ -59,6 +65,8 @@ fn moved(from: i32, parameter: u32) -> Result<i32, CommandCode>
     if parameter == GREATEST_PARAMETER {
         return Err(CommandCode::GreatestParameter);
     }
-    from.checked_add(unzigzag32(parameter))
-        .ok_or(CommandCode::OutOfBounds)
+    match from.checked_add(unzigzag32(parameter)) {
+        Some(to) => Ok(to),
+        None => Err(CommandCode::OutOfBounds),
+    }
 }

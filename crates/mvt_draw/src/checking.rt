@@ -9,9 +9,6 @@ ghost use Rattle.mvt_fault.specs.declared.command.CommandCode.{CommandCode};
 ghost use Rattle.mvt_plane.specs.Commands.Figure.{GeometryType};
 ghost use Rattle.mvt_tile.specs.View.{kind_number};
 
-#[cfg(test)]
-mod tests;
-
 use crate::commands::Cursor;
 use crate::drawing::DrawFault;
 use crate::reading::{read_path, read_points};
@@ -67,12 +64,25 @@ fn read_paths<N: NumberSource + Drop>(mut source: N, closed: bool) -> Result<(),
     ensures fault { IfErr result (λ stop. (given : List ℕ) → N.Leaves source given
         → IsFaultAhead (path_type closed) given stop) }
 {
+    read_all_paths(&mut source, closed)
+}
+
+/// The same from a source that stays.
+#[inline(always)]
+fn read_all_paths<N: NumberSource + Drop>(source: &mut N, closed: bool) -> Result<(), DrawFault>
+    requires few { N.most source.old < 2 ^ 64 }
+    ensures whole { OnOk result ((given : List ℕ) → N.Leaves source.old given
+        → IsWhole (path_type closed) given) }
+    ensures no_memory { IfErr result (λ stop. stop ≢ DrawFault.Memory) }
+    ensures fault { IfErr result (λ stop. (given : List ℕ) → N.Leaves source.old given
+        → IsFaultAhead (path_type closed) given stop) }
+{
     let Some(mut first) = source.next_number() else {
         return Err((CommandCode::Unfinished, 0).into());
     };
     let mut cursor = Cursor::ORIGIN;
     'paths: loop {
-        read_path(&mut Nothing, first, &mut source, &mut cursor, closed)?;
+        read_path(&mut Nothing, first, source, &mut cursor, closed)?;
         match source.next_number() {
             Some(number) => first = number,
             None => return Ok(()),

@@ -6,9 +6,6 @@ ghost use Rattle.mvt_plane.specs.Commands.Course.{IsRunAhead, ArePathsAhead};
 ghost use Rattle.mvt_draw.specs.Geometry.{IsDrawn, IsDrawFault};
 ghost use Rattle.mvt_plane.specs.FeatureGeometry.{HasFigure};
 
-#[cfg(test)]
-mod tests;
-
 use crate::checking::command_fault;
 use crate::commands::Cursor;
 use crate::figure::Figure;

@@ -10,8 +10,6 @@ mod reading;
 mod ring_buffer;
 mod sink;
 mod spelling;
-#[cfg(test)]
-mod tests;
 
 pub use checking::command_fault;
 pub use drawing::{DrawFault, draw};

@@ -12,9 +12,6 @@ ghost use Rattle.mvt_plane.specs.FeatureGeometry.{HasRings};
 ghost use Rattle.mvt_plane.specs.Position.{Position, IsPosition};
 ghost use Rattle.mvt_plane.specs.Calls.Reading.{StandsAt};
 
-#[cfg(test)]
-mod tests;
-
 use crate::commands::Cursor;
 use crate::drawing::DrawFault;
 use crate::reading::read_path;
@@ -81,13 +78,29 @@ impl RingBuffer {
         ensures fault { IfErr result (λ fault. (given : List ℕ) → N.Leaves numbers given
             → IsDrawFault 3 given fault) }
     {
+        self.draw_rings(alloc, &mut numbers)
+    }
+
+    /// The same from a source that stays.
+    #[inline(always)]
+    fn draw_rings<N: NumberSource + Drop>(
+        &mut self,
+        alloc: Global,
+        numbers: &mut N,
+    ) -> Result<(), DrawFault>
+        requires few { N.most numbers.old < 2 ^ 64 }
+        ensures rings { OnOk result ((given : List ℕ) → N.Leaves numbers.old given
+            → HasRings 3 given self.new) }
+        ensures fault { IfErr result (λ fault. (given : List ℕ) → N.Leaves numbers.old given
+            → IsDrawFault 3 given fault) }
+    {
         self.count = 0;
         let Some(mut first) = numbers.next_number() else {
             return Err((CommandCode::Unfinished, 0).into());
         };
         let mut cursor = Cursor::ORIGIN;
         'rings: loop {
-            self.draw_ring(alloc, first, &mut numbers, &mut cursor)?;
+            self.draw_ring(alloc, first, numbers, &mut cursor)?;
             match numbers.next_number() {
                 Some(number) => first = number,
                 None => return Ok(()),

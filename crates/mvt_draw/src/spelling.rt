@@ -4,9 +4,6 @@ ghost use Rattle.mvt_plane.specs.Commands.Figure.{AreApart, AreSteps, HasSpellin
 ghost use Rattle.mvt_plane.specs.Commands.Figure as plane;
 ghost use Rattle.mvt_draw.specs.Geometry.{IsSpelled, IsSpellFault};
 
-#[cfg(test)]
-mod tests;
-
 use crate::figure::Figure;
 use mvt_plane::{CLOSE_PATH, GREATEST_COUNT, LINE_TO, MOVE_TO, Point};
 use std::alloc::{AllocFailed, Global};

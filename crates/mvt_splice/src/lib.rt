@@ -7,8 +7,6 @@ mod fates;
 mod geometry;
 pub mod laws;
 mod layer;
-#[cfg(test)]
-mod tests;
 mod tile;
 mod writing;
 
