@@ -1,4 +1,5 @@
 -- Polygons whose bounds overlap, and islands in lakes.
+pub mod CellLands
 pub mod CellOrders
 pub mod FarApart
 pub mod Islands

@@ -21,8 +21,6 @@ mod lies_in;
 mod passing;
 mod placed;
 mod quickly;
-#[cfg(test)]
-pub(crate) mod tests;
 mod together;
 
 use crowded::crowded;

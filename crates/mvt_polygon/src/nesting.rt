@@ -8,8 +8,6 @@ ghost use Rattle.mvt_polygon.specs.declared.nesting.NestFault.{NestFault};
 
 pub(crate) mod noted;
 mod once;
-#[cfg(test)]
-pub(crate) mod tests;
 
 use mvt_plane::{Point, inside};
 pub use once::{check_nesting_once, fault_of_first_vertex};

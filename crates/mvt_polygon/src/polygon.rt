@@ -14,9 +14,6 @@ use mvt_plane::{Count, Point};
 use mvt_sweep::{Meeting, Swept, self_intersection, sweep_rings};
 use std::alloc::{AllocError, Global};
 
-#[cfg(test)]
-mod tests;
-
 /// What is wrong with a polygon.
 #[derive(Clone, Copy, Debug, PartialEq, Eq)]
 pub enum PolygonFault {

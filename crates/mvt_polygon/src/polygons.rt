@@ -6,9 +6,6 @@ ghost use Rattle.mvt_rules.specs.Ring.{ArePolygonRings};
 ghost use Rattle.mvt_polygon.specs.Polygons.{ArePolygons};
 ghost use Rattle.mvt_sweep.specs.Rings.{rings_of};
 
-#[cfg(test)]
-mod tests;
-
 use mvt_plane::{Point, twice_area};
 use std::alloc::{AllocError, Global};
 

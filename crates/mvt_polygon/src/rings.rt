@@ -6,9 +6,6 @@ ghost use Rattle.mvt_polygon.specs.RingFault.{IsFirstRingFault};
 ghost use Rattle.mvt_rules.specs.Ring.{ArePolygonRings, BreaksRings};
 ghost use Rattle.mvt_polygon.specs.Calls.Rings.{IsLeastCode};
 
-#[cfg(test)]
-pub(crate) mod tests;
-
 use mvt_fault::RingCode;
 use mvt_plane::{Point, twice_area};
 

@@ -6,8 +6,6 @@ pub mod laws;
 mod node;
 mod search;
 mod status;
-#[cfg(test)]
-mod tests;
 mod tree_status;
 mod vec_status;
 

@@ -13,9 +13,6 @@ use mvt_plane::Count;
 use std::alloc::{AllocError, Global};
 use std::marker::Model;
 
-#[cfg(test)]
-mod tests;
-
 /// A status in a height-balanced tree, whose nodes hold up to 32 edges each. Each call takes a
 /// number of steps that grows with the binary digits of the number of edges.
 #[derive(Drop)]

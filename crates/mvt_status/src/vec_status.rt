@@ -10,9 +10,6 @@ use mvt_plane::Count;
 use std::alloc::{AllocError, Global};
 use std::marker::Model;
 
-#[cfg(test)]
-mod tests;
-
 /// A status in a vector, where a place is found by halves. An edge that comes or goes moves all
 /// edges after it. It has no nodes, so no call counts a visit.
 #[derive(Drop)]

@@ -16,9 +16,6 @@ use mvt_plane::{Count, Hpoint, Point};
 use mvt_status::{Status, TreeStatus};
 use std::alloc::{AllocError, Global};
 
-#[cfg(test)]
-mod tests;
-
 /// Two edges that meet wrongly, the first of them before the second by ring and edge.
 #[derive(Clone, Copy, Debug, PartialEq, Eq)]
 pub struct Meeting {

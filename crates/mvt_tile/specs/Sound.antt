@@ -1,5 +1,5 @@
 -- How far a walk over a tile has come with no feature that has a fault.
-use Rattle.std.specs.Prelude.{◌≡◌, ℕ, ◌-◌, ◌<◌, ◌≤◌, List}
+use Rattle.std.specs.Prelude.{ℕ, ◌-◌, ◌<◌, ◌≤◌, List}
 use Rattle.mvt_wire.specs.Payload.{Span}
 use Rattle.mvt_rules.specs.Scope.{whole_span, IsPart}
 use Rattle.mvt_rules.specs.Tile.{FeatureRecord, IsFeature, LayerRecord, IsLayer}

@@ -5,8 +5,6 @@ ghost use Rattle.mvt_tile.specs.Calls.Equal.{StandsAt, equal_advice};
 ghost use Rattle.mvt_tile.specs.View.{layer_of, tile_of};
 
 mod repeated;
-#[cfg(test)]
-mod tests;
 
 use crate::record::{Layer, Tile};
 use repeated::{first_equal_ids, first_equal_keys};

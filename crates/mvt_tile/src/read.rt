@@ -12,8 +12,6 @@ ghost use Rattle.mvt_tile.specs.View.{layer_of, tile_of};
 
 mod feature;
 mod layer;
-#[cfg(test)]
-mod tests;
 mod value;
 
 use crate::lists::push_item;

@@ -24,8 +24,6 @@ mod layers;
 pub(crate) mod names;
 mod summary;
 mod tags;
-#[cfg(test)]
-mod tests;
 
 use crate::seen::Seen;
 pub use faults::rule_faults;

@@ -11,8 +11,6 @@ mod field;
 mod layer;
 mod message;
 pub(crate) mod scan;
-#[cfg(test)]
-mod tests;
 pub(crate) mod usual;
 
 use crate::wire::layer::layer_fault;
@@ -49,13 +47,10 @@ pub fn wire_fault_after(bytes: &[u8], passed: usize) -> Option<Fault>
     let mut layers = EmbeddedScan::new(Layers { passed }, LAYERS);
     let mut at = 0;
     'walk: loop {
-        let (field, next) = match own.pass_usual::<0>(Message::Tile, bytes, at) {
-            Some(read) => read,
-            None if at == bytes.len() => break,
-            None => match own.pass_any(Message::Tile, bytes, at) {
-                Ok(read) => read,
-                Err(cause) => return Some(wire_fault_in(Scope::Tile, cause)),
-            },
+        let (field, next) = match own.pass_next::<0>(Message::Tile, bytes, at) {
+            Ok(Some(read)) => read,
+            Ok(None) => break,
+            Err(cause) => return Some(wire_fault_in(Scope::Tile, cause)),
         };
         layers.pass(bytes, &field);
         at = next;

@@ -1,5 +1,5 @@
 //! The texts and values of a layer as JSON.
-ghost use Rattle.std.specs.Prelude.{◌≡◌, ◌++◌, OnOk, string_bytes};
+ghost use Rattle.std.specs.Prelude.{◌≡◌, ◌++◌, codes, OnOk, string_bytes};
 ghost use Rattle.hex.specs.Hex.{encode_lower};
 ghost use Rattle.serde_json.specs.Data.{string};
 ghost use Rattle.serde_json.specs.Written.{compact_text};
@@ -34,21 +34,9 @@ impl<'a> Part for Value<'a> {
 
     fn push_to(&self, alloc: Global, text: &mut String) -> Result<(), AllocError> {
         match *self {
-            Value::Text(content) => {
-                text.push_str("{\"string\":")?;
-                push_string(alloc, text, content)?;
-                text.push_str("}")
-            }
-            Value::Float(bytes) => {
-                text.push_str("{\"float\":")?;
-                push_bytes(alloc, text, bytes)?;
-                text.push_str("}")
-            }
-            Value::Double(bytes) => {
-                text.push_str("{\"double\":")?;
-                push_bytes(alloc, text, bytes)?;
-                text.push_str("}")
-            }
+            Value::Text(content) => push_keyed(alloc, text, "{\"string\":", content),
+            Value::Float(bytes) => push_bytes(alloc, text, "{\"float\":", bytes),
+            Value::Double(bytes) => push_bytes(alloc, text, "{\"double\":", bytes),
             Value::Int(number) => write!(text, "{{\"int\":{number}}}"),
             Value::Uint(number) => write!(text, "{{\"uint\":{number}}}"),
             Value::Sint(number) => write!(text, "{{\"sint\":{number}}}"),
@@ -57,8 +45,38 @@ impl<'a> Part for Value<'a> {
     }
 }
 
+/// Writes what an object begins with, a string as its content, and the brace after it.
+fn push_keyed(
+    alloc: Global,
+    text: &mut String,
+    opening: &str,
+    content: &str,
+) -> Result<(), AllocError>
+    ensures { OnOk result (string_bytes text.new ≡ string_bytes text.old
+        ++ (opening.now ++ (compact_text (string content.now) ++ codes "}"))) }
+{
+    text.push_str(opening)?;
+    push_string(alloc, text, content)?;
+    text.push_str("}")
+}
+
+/// The same of bytes, as a string of hexadecimal digits.
+fn push_bytes(
+    alloc: Global,
+    text: &mut String,
+    opening: &str,
+    bytes: &[u8],
+) -> Result<(), AllocError>
+    ensures { OnOk result (string_bytes text.new ≡ string_bytes text.old
+        ++ (opening.now ++ (compact_text (string (encode_lower bytes.now)) ++ codes "}"))) }
+{
+    text.push_str(opening)?;
+    push_digits(alloc, text, bytes)?;
+    text.push_str("}")
+}
+
 /// Writes bytes as a string of hexadecimal digits.
-fn push_bytes(alloc: Global, text: &mut String, bytes: &[u8]) -> Result<(), AllocError>
+fn push_digits(alloc: Global, text: &mut String, bytes: &[u8]) -> Result<(), AllocError>
     ensures { OnOk result (string_bytes text.new
         ≡ string_bytes text.old ++ compact_text (string (encode_lower bytes.now))) }
 {

@@ -2,7 +2,7 @@
 ghost use Rattle.std.specs.Prelude.{◌≡◌, List, [], ◌++◌, codes, if◌then◌else◌, IfOk, OnOk, string_bytes};
 ghost use Rattle.mvt_wire.specs.Field.{Entry, entry_of};
 ghost use Rattle.mvt_wire.specs.Message.{IsMessage};
-ghost use Rattle.mvt_engine.specs.FieldsLine.{field_text, fields_line, payload_text, varint_text};
+ghost use Rattle.mvt_engine.specs.FieldsLine.{field_text, fields_line, fields_text, opening, payload_text, varint_text};
 
 use mvt_wire::{Body, Field, Fields};
 use std::alloc::{AllocError, Global};
@@ -15,18 +15,29 @@ pub fn fields_line(alloc: Global, input: &[u8]) -> Result<String, AllocError>
         × IsMessage input.now 0 entries × (string_bytes line ≡ fields_line entries)) }
 {
     let mut line = String::from_str(alloc, "{\"fields\":[")?;
+    push_fields(&mut line, input)?;
+    line.push_str("]}\n")?;
+    Ok(line)
+}
+
+/// Writes the fields of a whole message after the line's opening.
+fn push_fields(line: &mut String, input: &[u8]) -> Result<(), AllocError>
+    requires whole { (entries : List Entry) × IsMessage input.now 0 entries }
+    requires opened { string_bytes line.old ≡ opening }
+    ensures { OnOk result ((entries : List Entry) × IsMessage input.now 0 entries
+        × (string_bytes line.new ≡ opening ++ fields_text entries)) }
+{
     let mut fields = Fields::new(input, 0, input.len());
     let mut is_first = true;
     'walk: while let Some(item) = fields.next_field() {
         match item {
-            Ok(field) => push_field(&mut line, field, is_first)?,
+            Ok(field) => push_field(line, field, is_first)?,
             // a whole message has no defect
             Err(_cause) => unreachable!(),
         }
         is_first = false;
     }
-    line.push_str("]}\n")?;
-    Ok(line)
+    Ok(())
 }
 
 /// Writes a field after the fields before it.

@@ -1,11 +1,11 @@
 -- Cells that are parted along an order: where the cell before ends, or where a span begins after all so far of the new cell.
-use Rattle.std.proofs.Common.{◌≡◌, ◌≢◌, ◌⊎◌, inl, inr, ℕ, ◌+◌, ◌-◌, ◌<◌, ◌≤◌, Bool, true, false, List, length, replicate, get_or, set, slice_get, Some, ℤ, pos, ◌<ℤ◌, ◌≤ℤ◌, refl, sym, ◌∙◌, ap, subst, arith, below_more, get_or-set_other, get_or-set_same}
+use Rattle.std.proofs.Common.{◌≡◌, ◌≢◌, ◌⊎◌, inl, inr, ℕ, ◌+◌, ◌-◌, ◌<◌, ◌≤◌, Bool, true, false, List, length, replicate, get_or, set, slice_get, Some, ℤ, pos, ◌<ℤ◌, ◌≤ℤ◌, refl, true≢false, sym, ◌∙◌, ap, subst, arith, below_more, get_or-set_other, get_or-set_same}
 use Rattle.std.proofs.lemmas.Bool.{cases_eq, cases_lt, cases_order}
 use Rattle.std.proofs.lemmas.List.{get_or-replicate}
 use Rattle.std.proofs.lemmas.Option.{same_Some, slice_get-get_or, slice_get_within}
 use Rattle.std.proofs.Math.ListN.{length-set}
 use Rattle.mvt_plane.proofs.Orders.Order.{zs}
-use Rattle.mvt_feature.specs.Calls.Cells.{AreAllMarked, AreCells, AreParted, AreRefined, AreSharing, AreSpansApart, IsCellOrder, keyed_number, order_at, span_at}
+use Rattle.mvt_feature.specs.Calls.Cells.{AreAllMarked, AreCells, AreCellsOf, AreParted, AreRefined, AreSharing, AreSpansApart, IsCellOrder, keyed_number, order_at, span_at}
 use Rattle.mvt_feature.proofs.Features.GatheredLists.{IsMarked, marked_or_not}
 
 module _ (old : ℕ → ℕ) (least end : ℕ → ℤ) where
@@ -328,6 +328,10 @@ all_marked count number below = get_or-replicate count number true false below
 pub marked_by_all : (count : ℕ) (marks : List Bool) → marks ≡ replicate count true → AreAllMarked count marks
 marked_by_all count marks is = subst (AreAllMarked count) (sym is) (all_marked count)
 
+-- where all are marked, those that aren't have cells of their own
+pub sharing_of_all : (cells : List ℕ) (marks : List Bool) → length marks ≡ length cells → AreAllMarked (length cells) marks → AreSharing cells marks
+sharing_of_all cells marks size all = record { size = size; alone = λ one other below _ _ unmarked. absurd (true≢false (sym (all one below) ∙ unmarked)) }
+
 -- ---- one parting after another
 
 -- where cells came apart, so did spans along an axis
@@ -346,3 +350,9 @@ parted_in_turn across upward before first second third by_first first_cells by_s
         ]
       ]
     ]
+
+-- where all had one cell before
+pub parted_of_one : (across upward : List (ℤ × ℤ)) (before cells : List ℕ) → length before ≡ length across → before ≡ replicate (length across) 0 → AreRefined across upward before cells → AreCellsOf across upward cells
+parted_of_one across upward before cells size is refined one other below its_below differ =
+    let each : (number : ℕ) → number < length across → get_or before number 0 ≡ 0 = λ number within. ap (λ (its : List ℕ). get_or its number 0) is ∙ get_or-replicate (length across) number 0 0 within in
+    refined one other (omega arith) (omega arith) (each one below ∙ sym (each other its_below)) differ

@@ -1,13 +1,13 @@
 -- The spans of polygons: the least and the greatest coordinates of their bounds.
-use Rattle.std.proofs.Common.{◌≡◌, ◌⊎◌, inl, inr, ℕ, ◌+◌, ◌<◌, Bool, List, [], ◌∷◌, ◌++◌, length, ℤ, ◌∙◌, subst, arith, below_more}
+use Rattle.std.proofs.Common.{◌≡◌, ◌⊎◌, inl, inr, ℕ, ◌+◌, ◌<◌, Bool, List, [], ◌∷◌, ◌++◌, length, ℤ, ◌∙◌, sym, subst, arith, below_more}
 use Rattle.std.proofs.lemmas.Grind.{common_steps}
 use Rattle.mvt_plane.specs.Position.{Position}
 use Rattle.mvt_plane.proofs.Orders.Order.{zs}
 use Rattle.mvt_feature.specs.Calls.Bounds.{AreFarApart}
 use Rattle.mvt_feature.specs.Calls.Islands.{AreMarked}
-use Rattle.mvt_feature.specs.Calls.Cells.{AreCells, AreCellsOf, AreRingSpans, AreSharing, AreSpansApart, AreSpansOf, HasRingSpans, HasSpans, span_at}
+use Rattle.mvt_feature.specs.Calls.Cells.{AreCells, AreCellsOf, AreRefined, AreRingSpans, AreSharing, AreSpansApart, AreSpansOf, HasRingSpans, HasSpans, span_at}
 use Rattle.mvt_feature.specs.Calls.FeatureParts.{listed_at}
-use Rattle.mvt_feature.specs.Calls.Lands.{AreApartFromNeighbours, AreCellsApart, AreFarFromNeighbours}
+use Rattle.mvt_feature.specs.Calls.Lands.{AreApartFromNeighbours, AreCellsApart, AreFarFromNeighbours, AreWithoutLands}
 
 -- those before the last one are the same
 span_before : (spans longer : List (ℤ × ℤ)) (last : ℤ × ℤ) (number : ℕ) → number < length spans → longer ≡ spans ++ last ∷ [] → span_at spans number ≡ span_at longer number
@@ -130,4 +130,18 @@ far_beside rings polygons across upward cells lands marks spans known beside =
           let here = neighbours.here in
           let there = neighbours.there in
           far_spans rings polygons across upward polygon other spans (omega arith) (omega arith) (beside.apart polygon other neighbours unmarked);
+    }
+
+-- neighbours had one cell, so those that don't share one any more have spans that are apart
+pub apart_beside : (across upward : List (ℤ × ℤ)) (cells lands others parted : List ℕ) (marks : List Bool) → AreWithoutLands cells lands (length cells) others → length parted ≡ length others
+    → AreRefined across upward others parted → AreSharing parted marks → AreApartFromNeighbours across upward cells lands marks
+apart_beside across upward cells lands others parted marks without count refined sharing =
+    let size = without.size in
+    record {
+      size = sharing.size ∙ count ∙ without.size;
+      apart = λ polygon other neighbours unmarked.
+          let here = neighbours.here in
+          let there = neighbours.there in
+          let same = without.same polygon neighbours.here neighbours.no_land ∙ neighbours.cell ∙ sym (without.same other neighbours.there neighbours.no_land_either) in
+          refined polygon other (omega arith) (omega arith) same (sharing.alone polygon other (omega arith) (omega arith) neighbours.different unmarked);
     }

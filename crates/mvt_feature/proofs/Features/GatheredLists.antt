@@ -1,5 +1,5 @@
 -- Lists that are gathered of the pieces that are marked.
-use Rattle.std.proofs.Common.{◌≡◌, ℕ, zero, suc, ◌+◌, ◌-◌, ◌<◌, ◌≤◌, ◌⊎◌, inl, inr, Bool, true, false, cond, List, [], ◌∷◌, ◌++◌, length, slice_get, slice_index_or, refl, ◌∙◌, ap, arith}
+use Rattle.std.proofs.Common.{◌≡◌, ℕ, zero, suc, ◌+◌, ◌-◌, ◌<◌, ◌≤◌, ◌⊎◌, inl, inr, Bool, true, false, cond, List, [], ◌∷◌, ◌++◌, length, slice_get, slice_index_or, refl, sym, ◌∙◌, ap, arith}
 use Rattle.std.proofs.lemmas.Bool.{cases_lt}
 use Rattle.std.proofs.lemmas.List.{length-append}
 use Rattle.mvt_feature.specs.Calls.Gathered.{gathered}
@@ -22,6 +22,27 @@ either_mark false = inr refl
 -- it is one or the other
 pub marked_or_not : (marks : List Bool) (number : ℕ) → IsMarked marks number ⊎ IsUnmarked marks number
 marked_or_not marks number = either_mark (slice_index_or marks number false)
+
+-- Pieces
+
+-- nothing more
+nothing_more : {X : Type 0} (xs : List X) → xs ++ [] ≡ xs
+nothing_more [] = refl
+nothing_more (x ∷ xs) = ap (λ (rest : List _). x ∷ rest) (nothing_more xs)
+
+-- a marked piece comes after those before it
+pub gathered_marked : {X : Type 0} (marks : List Bool) (piece : ℕ → List X) (number : ℕ) (before : List X) → before ≡ gathered marks piece number → IsMarked marks number
+    → before ++ piece number ≡ gathered marks piece (number + 1)
+gathered_marked {X = X} marks piece number before is marked =
+    let next : suc number ≡ number + 1 = omega arith in
+    ap (λ (its : List X). its ++ piece number) is ∙ ap (λ (mark : Bool). gathered marks piece number ++ cond mark (piece number) []) (sym marked) ∙ ap (gathered marks piece) next
+
+-- another one doesn't
+pub gathered_unmarked : {X : Type 0} (marks : List Bool) (piece : ℕ → List X) (number : ℕ) (before : List X) → before ≡ gathered marks piece number → IsUnmarked marks number
+    → before ≡ gathered marks piece (number + 1)
+gathered_unmarked {X = X} marks piece number before is unmarked =
+    let next : suc number ≡ number + 1 = omega arith in
+    is ∙ sym (nothing_more (gathered marks piece number)) ∙ ap (λ (mark : Bool). gathered marks piece number ++ cond mark (piece number) []) (sym unmarked) ∙ ap (gathered marks piece) next
 
 -- Counts
 

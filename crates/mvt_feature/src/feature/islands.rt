@@ -7,9 +7,6 @@ ghost use Rattle.mvt_feature.specs.Calls.Lands.{AreCellsApart, AreFailing, AreFa
 ghost use Rattle.mvt_polygon.specs.Polygons.{ArePolygons};
 ghost use Rattle.mvt_sweep.specs.Rings.{rings_of, AreProperRings};
 
-#[cfg(test)]
-mod tests;
-
 use super::lakes::lakes;
 use super::lies_in::lies_in;
 use mvt_plane::{Point, inside};

@@ -10,9 +10,6 @@ ghost use Rattle.mvt_rules.specs.Nesting.{IsVertexOf};
 ghost use Rattle.mvt_polygon.specs.declared.nesting.NestFault.{NestFault};
 ghost use Rattle.mvt_status.specs.Counts.{raised};
 
-#[cfg(test)]
-mod tests;
-
 use super::NestFault;
 use mvt_plane::{Count, Point, inside};
 

@@ -1,5 +1,6 @@
 -- A walk over a layer, none of whose fields, values and features that were passed has a fault.
 use Rattle.std.proofs.Common.{◌≡◌, ◌≢◌, ◌⊎◌, slice_get, ℕ, ◌-◌, ◌<◌, ◌≤◌, List, [], ◌∷◌, ◌++◌, length, take, false, is_some, Option, Some, inl, inr, refl, sym, ◌∙◌, subst, arith}
+use Rattle.std.proofs.lemmas.Bool.{cases_eq}
 use Rattle.std.proofs.lemmas.List.{length-take-le}
 use Rattle.mvt_wire.specs.Embedded.{AreClean}
 use Rattle.mvt_wire.specs.Field.{Entry, entry_of}
@@ -21,7 +22,7 @@ use Rattle.mvt_tile.specs.RuleFaults.{Keeps}
 use Rattle.mvt_tile.specs.Calls.Embedded.{HasNone, IsFaultlessLayer}
 use Rattle.mvt_tile.specs.Calls.FieldScan.{HasScanned, PassesNext}
 use Rattle.mvt_tile.specs.Calls.Least.{FindsLeastCause}
-use Rattle.mvt_tile.specs.Calls.OneWalk.{PassesFeature, PassesLayer}
+use Rattle.mvt_tile.specs.Calls.OneWalk.{IsRightFeature, IsSeenIn, PassesFeature, PassesField, PassesLayer}
 use Rattle.mvt_tile.specs.Sound.{AreSoundBefore, tells_none}
 use Rattle.mvt_tile.specs.Calls.Passed.{ArePassed, ArePartsPassed}
 use Rattle.mvt_tile.specs.Calls.Reading.{GivesSummary}
@@ -81,7 +82,7 @@ IsPlace {bytes = bytes} {from = from} {to = to} so_far place =
 
 module _ {IsKept : Keeps} {bytes : List ℕ} {from to at : ℕ} {own : FieldScan} {summary : LayerSummary} {needs : TagNeeds} (so_far : IsLayerPassed IsKept bytes from to at own summary needs) where
   -- the walk's place is such a one
-  pub place_here : IsPlace so_far at
+  place_here : IsPlace so_far at
   place_here field_number ordinal inner part = elim (passed_or_later (take to bytes) from at field_number so_far.entries part.entries so_far.scanning.passed part.whole ordinal inner part.here) [
     | inl here ↦ inl here
     | inr later ↦ inr (omega (arith, later.after, later.forward))
@@ -97,7 +98,7 @@ module _ {IsKept : Keeps} {bytes : List ℕ} {from to at : ℕ} {own : FieldScan
   next_inside inside next = let size = length-take-le to bytes inside in omega (arith, next.given.within)
 
   -- the place is in the layer
-  pub begun : from ≤ at
+  begun : from ≤ at
   begun = fields_forward (take to bytes) from at so_far.entries so_far.scanning.passed
 
   pub next_begun : {next_own : FieldScan} {read : Field × ℕ} → PassesNext messages.Layer (take to bytes) at own next_own read → from ≤ read.1
@@ -120,6 +121,19 @@ module _ (IsKept Other : Keeps) (still : (it : FeatureRecord) → IsKept it → 
       let sound = good ordinal span here it is layer_record (fewer before needs more_keys more_values layer_record like) in
       record { faultless = sound.faultless; kept = still it sound.kept }
 
+-- so is what was passed
+pub passed_still : {IsKept : Keeps} {bytes : List ℕ} {from to at : ℕ} {own : FieldScan} {summary : LayerSummary} {needs : TagNeeds} → IsLayerPassed IsKept bytes from to at own summary needs
+    → (Other : Keeps) → ((it : FeatureRecord) → IsKept it → Other it) → (more : TagNeeds) → needs.keys ≤ more.keys → needs.values ≤ more.values → IsLayerPassed Other bytes from to at own summary more
+passed_still {IsKept} {bytes} {from} {to} {needs = needs} so_far Other still more more_keys more_values = record {
+  within = so_far.within;
+  entries = so_far.entries;
+  scanning = so_far.scanning;
+  gives = so_far.gives;
+  values = so_far.values;
+  features = so_far.features;
+  good = λ layer. still_good IsKept Other still bytes layer (to - from) needs more more_keys more_values _ (so_far.good layer);
+}
+
 -- in front of such a place the features are sound, by more needs and a more lenient rule
 pub front_sound : {IsKept : Keeps} {bytes : List ℕ} {from to at : ℕ} {own : FieldScan} {summary : LayerSummary} {needs : TagNeeds} (so_far : IsLayerPassed IsKept bytes from to at own summary needs) (place : ℕ) → IsPlace so_far place
     → (Other : Keeps) → ((it : FeatureRecord) → IsKept it → Other it) → (more : TagNeeds) → needs.keys ≤ more.keys → needs.values ≤ more.values
@@ -128,6 +142,16 @@ front_sound {IsKept} {bytes} {from} {to} {needs = needs} so_far place is Other s
   | inl here ↦ still_good IsKept Other still bytes layer (to - from) needs more more_keys more_values (spans_of 2 so_far.entries) (so_far.good layer) feature inner here
   | inr later ↦ absurd (omega arith)
 ]
+
+-- so it is in front of the walk's place
+pub seen_here : {IsKept : Keeps} {bytes : List ℕ} {from to at : ℕ} {own : FieldScan} {summary : LayerSummary} {needs : TagNeeds} → IsLayerPassed IsKept bytes from to at own summary needs
+    → IsSeenIn IsKept bytes (record { to = at; needs = needs }) (record { from = from; to = to })
+seen_here {IsKept} {at = at} {needs = needs} so_far = record {
+  begun = begun so_far;
+  inside = so_far.within;
+  passed = parts_passed so_far at (place_here so_far);
+  sound = front_sound so_far at (place_here so_far) IsKept (λ it kept. kept) needs (omega arith) (omega arith);
+}
 
 module _ {IsKept : Keeps} {bytes : List ℕ} {from to at : ℕ} {own next_own : FieldScan} {summary : LayerSummary} {needs : TagNeeds} (inside : to ≤ length bytes) (so_far : IsLayerPassed IsKept bytes from to at own summary needs)
     {read : Field × ℕ} (next : PassesNext messages.Layer (take to bytes) at own next_own read) where
@@ -143,7 +167,7 @@ module _ {IsKept : Keeps} {bytes : List ℕ} {from to at : ℕ} {own next_own : 
     within_next = let size = length-take-le to bytes inside in omega (arith, next.given.within)
 
     -- it is passed: one that holds no message
-    pub passes_other : read.0.number ≢ 2 → read.0.number ≢ 4 → IsLayerPassed IsKept bytes from to read.1 next_own after needs
+    passes_other : read.0.number ≢ 2 → read.0.number ≢ 4 → IsLayerPassed IsKept bytes from to read.1 next_own after needs
     passes_other no_feature no_value = record {
       within = within_next;
       entries = so_far.entries ++ entry_of read.0 ∷ [];
@@ -155,7 +179,7 @@ module _ {IsKept : Keeps} {bytes : List ℕ} {from to at : ℕ} {own next_own : 
     }
 
     -- a value that has no fault
-    pub passes_value : read.0.number ≡ 4 → (span : Span) → span_of (entry_of read.0).content ≡ Some span → ((ordinal : ℕ) → HasNone messages.Value bytes ordinal span) → IsLayerPassed IsKept bytes from to read.1 next_own after needs
+    passes_value : read.0.number ≡ 4 → (span : Span) → span_of (entry_of read.0).content ≡ Some span → ((ordinal : ℕ) → HasNone messages.Value bytes ordinal span) → IsLayerPassed IsKept bytes from to read.1 next_own after needs
     passes_value is span there clean = record {
       within = within_next;
       entries = so_far.entries ++ entry_of read.0 ∷ [];
@@ -167,18 +191,26 @@ module _ {IsKept : Keeps} {bytes : List ℕ} {from to at : ℕ} {own next_own : 
     }
 
     -- a feature that has none, keeps the rule, and has tags that need no more
-    pub passes_feature : (Other : Keeps) → ((it : FeatureRecord) → IsKept it → Other it) → (more : TagNeeds) → needs.keys ≤ more.keys → needs.values ≤ more.values
-        → read.0.number ≡ 2 → (span : Span) → span_of (entry_of read.0).content ≡ Some span → ((ordinal : ℕ) → HasNone messages.Feature bytes ordinal span)
-        → ((layer ordinal : ℕ) → PassesFeature Other bytes layer (to - from) more ordinal span) → IsLayerPassed Other bytes from to read.1 next_own after more
-    passes_feature Other still more more_keys more_values is span there clean good = record {
+    passes_feature : read.0.number ≡ 2 → (span : Span) → span_of (entry_of read.0).content ≡ Some span → IsRightFeature IsKept bytes (to - from) needs span → IsLayerPassed IsKept bytes from to read.1 next_own after needs
+    passes_feature is span there right = record {
       within = within_next;
       entries = so_far.entries ++ entry_of read.0 ∷ [];
       scanning = IsScanning-more so_far.scanning next;
       gives = gives so_far.entries so_far.gives;
       values = clean_other _ 4 so_far.entries (entry_of read.0) so_far.values (omega (arith, is));
-      features = clean_more _ 2 so_far.entries (entry_of read.0) so_far.features is span there clean;
-      good = λ layer. clean_more _ 2 so_far.entries (entry_of read.0) (still_good IsKept Other still bytes layer (to - from) needs more more_keys more_values _ (so_far.good layer)) is span there (good layer);
+      features = clean_more _ 2 so_far.entries (entry_of read.0) so_far.features is span there right.wire;
+      good = λ layer. clean_more _ 2 so_far.entries (entry_of read.0) (so_far.good layer) is span there (right.passes layer);
     }
+
+    -- whatever it holds
+    pub passes_field : PassesField IsKept bytes (to - from) needs (entry_of read.0) → IsLayerPassed IsKept bytes from to read.1 next_own after needs
+    passes_field passes = elim (cases_eq read.0.number 2) [
+      | inl feature ↦ let held = passes.feature feature in passes_feature feature held.0 held.1 held.2
+      | inr no_feature ↦ elim (cases_eq read.0.number 4) [
+        | inl value ↦ let held = passes.value value in passes_value value held.0 held.1 held.2
+        | inr no_value ↦ passes_other no_feature no_value
+      ]
+    ]
 
 -- after the last field
 module _ (IsKept : Keeps) (bytes : List ℕ) (from to : ℕ) (forward : from ≤ to) (inside : to ≤ length bytes) {at : ℕ} (end : at ≡ to) {own : FieldScan} {summary : LayerSummary} {needs : TagNeeds} (so_far : IsLayerPassed IsKept bytes from to at own summary needs) where

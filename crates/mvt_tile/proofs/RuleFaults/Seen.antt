@@ -1,5 +1,5 @@
 -- Features in front of a place that was seen to be sound.
-use Rattle.std.proofs.Common.{◌≡◌, ℕ, ◌+◌, ◌<◌, ◌≤◌, ◌≢◌, List, [], take, is_some, false, Option, Some, None, MatchOption, arith}
+use Rattle.std.proofs.Common.{◌≡◌, ℕ, List, take, arith}
 use Rattle.mvt_wire.specs.Field.{Entry}
 use Rattle.mvt_wire.specs.Payload.{Span}
 use Rattle.mvt_wire.specs.Walk.{Walk}

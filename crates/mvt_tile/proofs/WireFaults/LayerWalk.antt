@@ -1,5 +1,5 @@
 -- What is known while the fields of a layer are walked, and what it says of the layer's faults.
-use Rattle.std.proofs.Common.{◌≡◌, ℕ, ◌+◌, ◌≤◌, List, [], ◌∷◌, ◌++◌, length, take, slice_get, Option, Some, None, sym, ◌∙◌, subst, arith}
+use Rattle.std.proofs.Common.{◌≡◌, ℕ, ◌+◌, ◌≤◌, List, [], ◌∷◌, ◌++◌, length, take, slice_get, Option, Some, None, MatchOption, IfNone, IfSome, inl, inr, sym, ◌∙◌, subst, arith}
 use Rattle.std.proofs.lemmas.List.{length-take-le}
 use Rattle.mvt_wire.specs.Field.{Entry, entry_of}
 use Rattle.mvt_wire.specs.Payload.{Span, spans_of}
@@ -11,7 +11,7 @@ use Rattle.mvt_wire.specs.declared.field.Field.{Field}
 use Rattle.mvt_wire.specs.declared.schema.Message.{Message}
 use Rattle.mvt_wire.specs.declared.schema.Message.TheVariants as messages
 use Rattle.mvt_wire.specs.declared.scope.Scope.TheVariants as scopes
-use Rattle.mvt_tile.specs.Calls.Embedded.{HasNone, HasFirst}
+use Rattle.mvt_tile.specs.Calls.Embedded.{HasNone, HasFirst, IsInnerFault}
 use Rattle.mvt_tile.specs.Calls.Passed.{HasNoneAfter, HasFirstAfter, IsFaultlessAfter, IsFirstAfter, IsMessageKnownTo, IsKnownTo}
 use Rattle.mvt_wire.specs.Embedded.{FindsFirst}
 use Rattle.mvt_tile.specs.Calls.Least.{FindsLeastCause}
@@ -20,6 +20,7 @@ use Rattle.mvt_wire.specs.declared.embedded.EmbeddedScan.{EmbeddedScan}
 use Rattle.mvt_tile.specs.declared.wire.message.MessageCheck.{MessageCheck}
 use Rattle.mvt_tile.specs.declared.wire.scan.FieldScan.{FieldScan}
 use Rattle.mvt_fault.specs.Cause.{wire_fault_in}
+use Rattle.mvt_fault.specs.declared.fault.Fault.{Fault}
 use Rattle.mvt_tile.proofs.WireFaults.Known.{FindsFirst-known}
 use Rattle.mvt_tile.proofs.WireFaults.Layers.{IsLeast-own, IsLeast-value, IsLeast-feature, IsLayerFault-none}
 use Rattle.mvt_tile.proofs.WireFaults.Walking.{IsScanning, IsScanning-more, IsScanning-whole}
@@ -121,13 +122,13 @@ module _ (bytes : List ℕ) (place from to at : ℕ) (own : FieldScan) (value_sc
 
     module _ (none : (passed : List Entry) → HasScanned messages.Layer own passed → FindsLeastCause (EndFault messages.Layer passed to) None) where
       -- that of a value, where the layer has none of its own
-      pub LayerWalk-value : (layer ordinal : ℕ) (cause : WireCause) → value_scan.first ≡ Some (ordinal, cause) → IsFirstAfter place bytes (wire_fault_in (scopes.Value layer ordinal) cause) layer (span_between from to)
+      LayerWalk-value : (layer ordinal : ℕ) (cause : WireCause) → value_scan.first ≡ Some (ordinal, cause) → IsFirstAfter place bytes (wire_fault_in (scopes.Value layer ordinal) cause) layer (span_between from to)
       LayerWalk-value layer ordinal cause first = λ known.
           IsLeast-value bytes (span_between from to) layer so_far.entries ordinal cause whole (own_finds None none)
           (scan_finds bytes value_scan so_far.entries messages.Value place 4 (Some (ordinal, cause)) so_far.value_check so_far.value_number first so_far.values (value_known known))
 
       -- that of a feature, where no value has one
-      pub LayerWalk-feature : (layer ordinal : ℕ) (cause : WireCause) → value_scan.first ≡ None → feature_scan.first ≡ Some (ordinal, cause)
+      LayerWalk-feature : (layer ordinal : ℕ) (cause : WireCause) → value_scan.first ≡ None → feature_scan.first ≡ Some (ordinal, cause)
           → IsFirstAfter place bytes (wire_fault_in (scopes.Feature layer ordinal) cause) layer (span_between from to)
       LayerWalk-feature layer ordinal cause values first = λ known.
           IsLeast-feature bytes (span_between from to) layer so_far.entries ordinal cause whole (own_finds None none)
@@ -135,8 +136,17 @@ module _ (bytes : List ℕ) (place from to at : ℕ) (own : FieldScan) (value_sc
           (scan_finds bytes feature_scan so_far.entries messages.Feature place 2 (Some (ordinal, cause)) so_far.feature_check so_far.feature_number first so_far.features (feature_known known))
 
       -- none
-      pub LayerWalk-none : (layer : ℕ) → value_scan.first ≡ None → feature_scan.first ≡ None → IsFaultlessAfter place bytes layer (span_between from to)
+      LayerWalk-none : (layer : ℕ) → value_scan.first ≡ None → feature_scan.first ≡ None → IsFaultlessAfter place bytes layer (span_between from to)
       LayerWalk-none layer values features = λ known.
           IsLayerFault-none bytes (span_between from to) layer so_far.entries whole (own_finds None none)
           (scan_finds bytes value_scan so_far.entries messages.Value place 4 None so_far.value_check so_far.value_number values so_far.values (value_known known)).1
           (scan_finds bytes feature_scan so_far.entries messages.Feature place 2 None so_far.feature_check so_far.feature_number features so_far.features (feature_known known)).1
+
+      -- that of a value, or else of a feature, or none
+      pub LayerWalk-inner : (layer : ℕ) (found : Option Fault) → IfNone found ((value_scan.first ≡ None) × (feature_scan.first ≡ None)) → IfSome found (IsInnerFault layer value_scan.first feature_scan.first)
+          → MatchOption found (IsFaultlessAfter place bytes layer (span_between from to)) (λ fault. IsFirstAfter place bytes fault layer (span_between from to))
+      LayerWalk-inner layer None nothing first = LayerWalk-none layer nothing.0 nothing.1
+      LayerWalk-inner layer (Some fault) nothing first = elim first [
+        | inl of_value ↦ subst (λ (it : Fault). IsFirstAfter place bytes it layer (span_between from to)) (sym of_value.2) (LayerWalk-value layer of_value.0.0 of_value.0.1 of_value.1)
+        | inr of_feature ↦ subst (λ (it : Fault). IsFirstAfter place bytes it layer (span_between from to)) (sym of_feature.3) (LayerWalk-feature layer of_feature.0.0 of_feature.0.1 of_feature.1 of_feature.2)
+      ]

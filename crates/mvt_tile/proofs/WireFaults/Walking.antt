@@ -127,10 +127,3 @@ MessageWalk-more so_far next = record { within = next.given.within; entries = _;
 -- where a field wasn't passed the quick way, nothing has changed
 pub MessageWalk-unchanged : {message : Message} {bytes : List ℕ} {from at : ℕ} {before after : FieldScan} → MessageWalk message bytes from at before → after ≡ before → MessageWalk message bytes from at after
 MessageWalk-unchanged {message} {bytes} {from} {at} so_far same = subst (λ (scan : FieldScan). MessageWalk message bytes from at scan) (sym same) so_far
-
--- the field that was passed, one way or the other
-pub PassesNext-as : {message : Message} {bytes : List ℕ} {at : ℕ} {old before after own : FieldScan} {read next : Field × ℕ} → PassesNext message bytes at before after read → before ≡ old → own ≡ after → next ≡ read
-    → PassesNext message bytes at old own next
-PassesNext-as {message} {bytes} {at} {old} {before} {after} {own} {read} {next} passed begin end is =
-    subst (λ (scan : FieldScan). PassesNext message bytes at scan own next) begin
-    (subst (λ (scan : FieldScan). PassesNext message bytes at before scan next) (sym end) (subst (λ (r : Field × ℕ). PassesNext message bytes at before after r) (sym is) passed))

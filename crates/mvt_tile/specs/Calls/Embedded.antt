@@ -1,5 +1,5 @@
 -- The wire faults of a layer and of the messages in it, as walks over the fields find them.
-use Rattle.std.specs.Prelude.{◌≡◌, ℕ, List, take}
+use Rattle.std.specs.Prelude.{◌≡◌, ◌⊎◌, ℕ, List, take, Option, Some, None}
 use Rattle.mvt_wire.specs.Field.{cause_at}
 use Rattle.mvt_wire.specs.Payload.{Span}
 use Rattle.mvt_rules.specs.Scope.{IsPart}
@@ -10,6 +10,7 @@ use Rattle.mvt_wire.specs.declared.scope.Scope.{Scope}
 use Rattle.mvt_wire.specs.declared.scope.Scope.TheVariants.{Tile, Layer, Value, Feature}
 use Rattle.mvt_wire.specs.declared.schema.Message.{Message}
 use Rattle.mvt_wire.specs.declared.schema.Message.TheVariants as messages
+use Rattle.mvt_fault.specs.Cause.{wire_fault_in}
 use Rattle.mvt_fault.specs.Place.{IsLeast}
 use Rattle.mvt_fault.specs.declared.fault.Fault.{Fault}
 use Rattle.mvt_fault.specs.declared.fault.Fault.TheVariants.{Wire}
@@ -48,3 +49,9 @@ IsFaultlessLayer bytes ordinal span = (fault : Fault) → ¬ IsLayerFault bytes 
 -- the layer has this fault as its first
 abbrev pub IsFirstOfLayer : List ℕ → Fault → ℕ → Span → Type 0
 IsFirstOfLayer bytes fault ordinal span = IsLeast (IsLayerFault bytes span ordinal) fault
+
+-- the fault is the one that was found in the values of a layer with an ordinal, or else in its features
+abbrev pub IsInnerFault : ℕ → Option (ℕ × WireCause) → Option (ℕ × WireCause) → Fault → Type 0
+IsInnerFault layer of_value of_feature fault =
+    ((found : ℕ × WireCause) × (of_value ≡ Some found) × (fault ≡ wire_fault_in (Value layer found.0) found.1))
+    ⊎ ((found : ℕ × WireCause) × (of_value ≡ None) × (of_feature ≡ Some found) × (fault ≡ wire_fault_in (Feature layer found.0) found.1))

@@ -8,7 +8,6 @@ use Rattle.mvt_fault.specs.declared.tag.TagCode.{TagCode}
 use Rattle.mvt_rules.specs.Tile.{FeatureRecord, LayerRecord}
 use Rattle.mvt_tile.specs.RuleFaults.{Breaks, IsAfterTags}
 use Rattle.mvt_tile.specs.declared.rules.summary.LayerSummary.{LayerSummary}
-use Rattle.mvt_tile.specs.declared.rules.tags.TagNeeds.{TagNeeds}
 
 -- what the layer has, as far as the rules need it
 pub record IsSummary (summary : LayerSummary) (layer : LayerRecord) : Type 0 where

@@ -1,9 +1,9 @@
 //! The faults of a tile by its rules, one of each layer and one of each feature that has any.
-ghost use Rattle.std.specs.Prelude.{◌≡◌, [], ℕ, length, IfOk, OnOk};
+ghost use Rattle.std.specs.Prelude.{◌≡◌, ◌++◌, [], ℕ, List, length, IfOk, OnOk};
 ghost use Rattle.mvt_fault.specs.Place.{place_of};
 ghost use Rattle.mvt_fault.specs.declared.fault.Fault.{Fault};
 ghost use Rattle.mvt_rules.specs.Tile.{FeatureRecord, TileRecord, IsTile};
-ghost use Rattle.mvt_tile.specs.Calls.Gathered.{AreGatheredTo, AreSummaries};
+ghost use Rattle.mvt_tile.specs.Calls.Gathered.{AreGatheredLayers, AreGatheredTo, AreSummaries};
 ghost use Rattle.mvt_tile.specs.Calls.RuleFaults.{AreAfterTags};
 ghost use Rattle.mvt_tile.specs.FirstFaults.{AreFirstFaults};
 ghost use Rattle.mvt_tile.specs.RuleFaults.{IsAfterTags};
@@ -42,21 +42,38 @@ pub fn rule_faults<R: FeatureRule>(
 {
     let mut layers = Vec::new(alloc);
     let mut faults = Vec::new(alloc);
-    walk_all_layers(alloc, bytes, rule, &mut layers, &mut faults)?;
-    let mut of_layers = faults_of_layers(alloc, &layers)?;
+    let mut buffer = FeatureBuffer::new(alloc);
+    walk_all_layers(bytes, rule, &mut buffer, &mut layers, &mut faults)?;
+    add_faults_of_layers(alloc, &layers, &mut faults)?;
+    Ok(faults)
+}
+
+/// Adds the faults of the layers themselves in front of those of their features. The only error is
+/// that memory was refused.
+fn add_faults_of_layers(
+    alloc: Global,
+    layers: &[LayerSummary<'_>],
+    faults: &mut Vec<Fault>,
+) -> Result<(), AllocError>
+    ensures { OnOk result ((of_layers : List Fault)
+        × ((tile : TileRecord) → AreSummaries layers.now tile
+        → AreGatheredLayers tile (length tile.layers) of_layers)
+        × (faults.new.items ≡ of_layers ++ faults.old.items)) }
+{
+    let mut of_layers = faults_of_layers(alloc, layers)?;
     let count = of_layers.len();
     faults.append(&mut of_layers)?;
     faults.rotate_right(count);
-    Ok(faults)
+    Ok(())
 }
 
 /// Walks over all layers of a tile, whatever their versions, and adds the summary of each to
 /// `layers`, and the first fault of each feature that has one to `faults`. Both are empty before.
 /// The only error is that memory was refused.
 fn walk_all_layers<'a, R: FeatureRule>(
-    alloc: Global,
     bytes: &'a [u8],
     rule: &mut R,
+    buffer: &mut FeatureBuffer,
     layers: &mut Vec<LayerSummary<'a>>,
     faults: &mut Vec<Fault>,
 ) -> Result<(), AllocError>
@@ -69,14 +86,13 @@ fn walk_all_layers<'a, R: FeatureRule>(
     ensures gathers { OnOk result ((tile : TileRecord) → IsTile bytes.now tile
         → AreGatheredTo R.IsFree R.IsBroken R.IsKept tile (length tile.layers) 0 faults.new.items) }
 {
-    let mut buffer = FeatureBuffer::new(alloc);
     let mut layer_index = 0;
     let mut fields = Fields::new(bytes, 0, bytes.len());
     'walk: while let Some(field) = fields.next_whole() {
         if field.number == LAYERS {
             let (from, to) = payload_span(field.body);
             let part = Part { bytes, from, to };
-            let summary = add_faults_in_layer(part, rule, layer_index, &mut buffer, faults)?;
+            let summary = add_faults_in_layer(part, rule, layer_index, buffer, faults)?;
             layers.push(summary)?;
             layer_index += 1;
         }

@@ -143,13 +143,8 @@ pub(crate) fn find_in_feature<R: FeatureRule>(
         return rule.find_fault(buffer.alloc, feature, layer_index, feature_index, found);
     }
     let mut of_tags = None;
-    needs.add(scan_tags(
-        &mut buffer.marks,
-        feature.tags(),
-        keys,
-        values,
-        &mut of_tags,
-    )?);
+    let mut tags = feature.tags();
+    needs.add(scan_tags(&mut buffer.marks, &mut tags, keys, values, &mut of_tags)?);
     let Some((code, index)) = of_tags else {
         return rule.find_fault(buffer.alloc, feature, layer_index, feature_index, found);
     };

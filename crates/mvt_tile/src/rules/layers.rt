@@ -1,13 +1,10 @@
 //! The versions and names of layers (Mapbox Vector Tile Specification 2.1, section 4.1).
-ghost use Rattle.std.specs.Prelude.{◌≡◌, IfOk, IfNone, IfSome};
+ghost use Rattle.std.specs.Prelude.{◌≡◌, IfOk, IfNone, IfSome, OnOk};
 ghost use Rattle.mvt_fault.specs.Place.{IsLeast};
 ghost use Rattle.mvt_rules.specs.Parts.TrueFaults.{IsFaultOfLayers};
 ghost use Rattle.mvt_fault.specs.declared.fault.Fault.{Fault};
-ghost use Rattle.mvt_rules.specs.Tile.{TileRecord, IsTile};
+ghost use Rattle.mvt_tile.specs.Calls.PassedLayers.{passed, EndsLayers, PassesLayers};
 ghost use Rattle.mvt_tile.specs.View.{tile_of};
-
-#[cfg(test)]
-mod tests;
 
 use super::layer_rules::LayerRules;
 use crate::record::Tile;
@@ -24,10 +21,21 @@ pub fn check_layers(alloc: Global, tile: &Tile<'_>) -> Result<Option<Fault>, All
         IfSome found (IsLeast (IsFaultOfLayers (tile_of tile.now)))) }
 {
     let mut rules = LayerRules::new(alloc);
+    note_layers(tile, &mut rules)?;
+    Ok(rules.fault())
+}
+
+/// Passes the layers of a tile, up to the first that has another version than 2. No layer was passed
+/// before. The only error is that memory was refused.
+fn note_layers<'a>(tile: &Tile<'a>, rules: &mut LayerRules<'a>) -> Result<(), AllocError>
+    requires none { passed rules.old ≡ 0 }
+    requires passes { PassesLayers rules.old (tile_of tile.now) }
+    ensures { OnOk result (EndsLayers rules.new (tile_of tile.now)) }
+{
     for layer in &tile.layers {
         if !rules.note(layer.version, layer.name.as_bytes())? {
-            break;
+            return Ok(());
         }
     }
-    Ok(rules.fault())
+    Ok(())
 }

@@ -2,22 +2,15 @@
 ghost use Rattle.std.specs.Prelude.{◌≡◌, ◌<◌, ◌≤◌, ◌++◌, ◌∷◌, [], IfNone, IfSome, IsFalse, IsTrue, Some, OnOk, ℕ, length};
 ghost use Rattle.mvt_tile.specs.Calls.Names.{IsFirstRepeated, IsRepeated, name_key};
 
+use crate::first_places::Held;
 use std::alloc::{AllocError, Global};
 use std::marker::Model;
 
-/// The names of several layers, in their order.
+/// The names of several layers, in their order: of each its text, with the key of the text, and the
+/// layer's ordinal as its place.
 #[derive(Drop)]
 pub(crate) struct SeveralNames<'a> {
-    names: Vec<NamedLayer<'a>>,
-}
-
-/// A layer's name and ordinal. The key of the name comes first, so that a sort reads the texts of
-/// two names only where their keys are the same.
-#[derive(Clone, Copy, PartialEq, Eq, PartialOrd, Ord)]
-struct NamedLayer<'a> {
-    key: u64,
-    name: &'a [u8],
-    ordinal: usize,
+    names: Vec<Held<'a>>,
 }
 
 impl<'a> Model for SeveralNames<'a> {
@@ -26,10 +19,10 @@ impl<'a> Model for SeveralNames<'a> {
 
     ghost Value = { List (List ℕ) };
 
-    ghost view = { λ names. map (λ named. named.name.now) names.names.items };
+    ghost view = { λ names. map (λ named. named.text.now) names.names.items };
 
-    ghost invariant = { λ names. AreNumbered (map (λ named. named.ordinal) names.names.items)
-        × All (λ named. named.key ≡ name_key named.name.now) names.names.items };
+    ghost invariant = { λ names. AreNumbered (map (λ named. named.place) names.names.items)
+        × All (λ named. named.number ≡ name_key named.text.now) names.names.items };
 }
 
 impl<'a> SeveralNames<'a> {
@@ -54,9 +47,13 @@ impl<'a> SeveralNames<'a> {
     pub(crate) fn add(&mut self, name: &'a [u8]) -> Result<(), AllocError>
         ensures { OnOk result (self.new ≡ self.old ++ name.now ∷ []) }
     {
-        let ordinal = self.names.len();
-        let key = name_key(name);
-        self.names.push(NamedLayer { key, name, ordinal })?;
+        let place = self.names.len();
+        let number = name_key(name);
+        self.names.push(Held {
+            number,
+            text: name,
+            place,
+        })?;
         Ok(())
     }
 
@@ -73,11 +70,11 @@ impl<'a> SeveralNames<'a> {
         for at in 1..names.len() {
             let layer = names[at - 1];
             let next = names[at];
-            if layer.key == next.key
-                && layer.name == next.name
-                && comes_first(found, next.ordinal)
+            if layer.number == next.number
+                && layer.text == next.text
+                && comes_first(found, next.place)
             {
-                found = Some((layer.ordinal, next.ordinal));
+                found = Some((layer.place, next.place));
             }
         }
         found

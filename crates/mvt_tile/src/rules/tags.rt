@@ -3,14 +3,13 @@ ghost use Rattle.std.specs.Prelude.{◌≡◌, ◌+◌, ◌<◌, ◌≤◌, ◌^
 ghost use Rattle.mvt_fault.specs.Place.{IsLeast};
 ghost use Rattle.mvt_rules.specs.Parts.TrueFaults.{IsFaultOfTags};
 ghost use Rattle.mvt_fault.specs.declared.fault.Fault.{Fault};
+ghost use Rattle.mvt_fault.specs.declared.fault.Fault.TheVariants.{Tag};
+ghost use Rattle.mvt_fault.specs.declared.tag.TagCode.{TagCode};
 ghost use Rattle.mvt_rules.specs.Tile.{FeatureRecord};
 ghost use Rattle.mvt_tile.specs.Calls.RuleFaults.{FindsFirstTagFault};
 ghost use Rattle.mvt_tile.specs.Calls.PassedTags.{ArePassed, HasFoundBefore, IsPairAt, IsScanned, AreMetBy};
 ghost use Rattle.mvt_tile.specs.View.{layer_of};
 ghost use Rattle.mvt_tile.specs.declared.rules.key_marks.KeyMarks.{KeyMarks};
-
-#[cfg(test)]
-mod tests;
 
 use super::key_marks::KeyMarks;
 use crate::record::Layer;
@@ -38,20 +37,33 @@ pub fn check_tags(
         → IsLeast (IsFaultOfTags (layer_of layer.now) feature_record layer_index feature_index)
         fault)) }
 {
-    let tags = ListedNumbers::new(&layer.features[feature_index].tags);
+    let mut tags = ListedNumbers::new(&layer.features[feature_index].tags);
     let mut marks = KeyMarks::new(alloc);
     let mut found = None;
     let (keys, values) = (layer.keys.len(), layer.values.len());
-    scan_tags(&mut marks, tags, keys, values, &mut found)?;
-    let Some((code, index)) = found else {
-        return Ok(None);
-    };
-    Ok(Some(Fault::Tag {
-        code,
-        layer: layer_index,
-        feature: feature_index,
-        index,
-    }))
+    scan_tags(&mut marks, &mut tags, keys, values, &mut found)?;
+    Ok(tag_fault(found, layer_index, feature_index))
+}
+
+/// The fault of a feature's tags that was found, with the ordinals of the layer and the feature.
+fn tag_fault(
+    found: Option<(TagCode, usize)>,
+    layer_index: usize,
+    feature_index: usize,
+) -> Option<Fault>
+    ensures none { IfNone result (found ≡ None) }
+    ensures tag { IfSome result (λ fault. (tag : TagCode × ℕ) × (found ≡ Some tag)
+        × (fault ≡ Tag tag.0 layer_index feature_index tag.1)) }
+{
+    match found {
+        Some((code, index)) => Some(Fault::Tag {
+            code,
+            layer: layer_index,
+            feature: feature_index,
+            index,
+        }),
+        None => None,
+    }
 }
 
 /// How many keys and values a layer must have at least, so that it has those that tags name.
@@ -101,20 +113,20 @@ impl TagNeeds {
 #[inline(always)]
 pub(crate) fn scan_tags<N: NumberSource + Drop>(
     marks: &mut KeyMarks,
-    mut tags: N,
+    tags: &mut N,
     keys: usize,
     values: usize,
     found: &mut Option<(TagCode, usize)>,
 ) -> Result<TagNeeds, AllocError>
     requires nothing { found.old ≡ None }
-    requires few { N.most tags < 2 ^ 63 }
-    ensures { IfOk result (λ needs. (given : List ℕ) → N.Leaves tags given
+    requires few { N.most tags.old < 2 ^ 63 }
+    ensures { IfOk result (λ needs. (given : List ℕ) → N.Leaves tags.old given
         → FindsFirstTagFault keys values given found.new × AreMetBy needs given) }
 {
     marks.clear();
     let mut needs = TagNeeds::none();
     let mut at = 0;
-    'pairs: while let Some((key, value)) = next_tags(&mut tags) {
+    'pairs: while let Some((key, value)) = next_tags(tags) {
         let Some(value) = value else {
             *found = Some((TagCode::OddLength, at + 1));
             return Ok(needs);
@@ -132,21 +144,21 @@ pub(crate) fn scan_tags<N: NumberSource + Drop>(
 /// of odd length.
 #[inline(always)]
 fn scan_rest<N: NumberSource + Drop>(
-    mut tags: N,
+    tags: &mut N,
     from: usize,
     before: TagNeeds,
     fault: (TagCode, usize),
     found: &mut Option<(TagCode, usize)>,
 ) -> TagNeeds
-    requires few { from + N.most tags < 2 ^ 63 }
-    ensures { (given : List ℕ) → N.Leaves tags (drop from given)
+    requires few { from + N.most tags.old < 2 ^ 63 }
+    ensures { (given : List ℕ) → N.Leaves tags.old (drop from given)
         → (set : KeyMarks) (keys values : ℕ)
         → IsScanned set keys values given from before (Some fault)
         → FindsFirstTagFault keys values given found.new × AreMetBy result given }
 {
     let mut needs = before;
     let mut at = from;
-    'pairs: while let Some((key, value)) = next_tags(&mut tags) {
+    'pairs: while let Some((key, value)) = next_tags(tags) {
         let Some(value) = value else {
             *found = Some((TagCode::OddLength, at + 1));
             return needs;

@@ -1,12 +1,10 @@
 //! A feature of a tile in one walk: its fields, its tags and a further rule (Mapbox Vector Tile
 //! Specification 2.1, sections 4.2 and 4.4).
-ghost use Rattle.std.specs.Prelude.{◌≤◌, ℕ, IfOk, IsTrue};
+ghost use Rattle.std.specs.Prelude.{◌≤◌, IfOk, IsTrue};
 ghost use Rattle.mvt_wire.specs.Embedded.{span_in};
-ghost use Rattle.mvt_wire.specs.declared.schema.Message.TheVariants as messages;
 ghost use Rattle.mvt_rules.specs.Tile.{FeatureRecord};
 ghost use Rattle.mvt_tile.specs.FeatureBytes.{Encodes};
-ghost use Rattle.mvt_tile.specs.Calls.Embedded.{HasNone};
-ghost use Rattle.mvt_tile.specs.Calls.OneWalk.{HasGoodTags, PassesFeature};
+ghost use Rattle.mvt_tile.specs.Calls.OneWalk.{HasGoodTags, IsRightFeature};
 
 use crate::feature_bytes::FeatureBytes;
 use crate::rules::{FeatureBuffer, TagNeeds, scan_tags};
@@ -39,11 +37,8 @@ pub(crate) fn passes_feature<T: FeatureTest>(
 ) -> Result<bool, AllocError>
     ensures no_fewer_keys { needs.old.keys ≤ needs.new.keys }
     ensures no_fewer_values { needs.old.values ≤ needs.new.values }
-    ensures wire { IfOk result (λ passes. IsTrue passes → (ordinal : ℕ)
-        → HasNone messages.Feature part.entry.bytes.now ordinal (span_in part.entry)) }
-    ensures rules { IfOk result (λ passes. IsTrue passes → (layer ordinal : ℕ)
-        → PassesFeature (T.IsKept test.new) part.entry.bytes.now layer most needs.new ordinal
-        (span_in part.entry)) }
+    ensures right { IfOk result (λ passes. IsTrue passes → IsRightFeature (T.IsKept test.new)
+        part.entry.bytes.now most needs.new (span_in part.entry)) }
     ensures still { (feature_record : FeatureRecord) → T.IsKept test.old feature_record
         → T.IsKept test.new feature_record }
 {
@@ -73,8 +68,8 @@ fn tags_pass(
         return Ok(true);
     }
     let mut found = None;
-    let tags = feature.tags();
-    needs.add(scan_tags(&mut buffer.marks, tags, most, most, &mut found)?);
+    let mut tags = feature.tags();
+    needs.add(scan_tags(&mut buffer.marks, &mut tags, most, most, &mut found)?);
     match found {
         None => Ok(true),
         Some(_) => Ok(false),

@@ -1,12 +1,11 @@
 //! A layer of a tile in one walk (Mapbox Vector Tile Specification 2.1, section 4.1).
-ghost use Rattle.std.specs.Prelude.{◌≡◌, ◌-◌, ◌≤◌, ℕ, IfNone, IfOk, IfSome, OnOk};
-ghost use Rattle.mvt_wire.specs.Embedded.{Holds, span_in};
-ghost use Rattle.mvt_rules.specs.Tile.{FeatureRecord, IsLayer, LayerRecord};
-ghost use Rattle.mvt_tile.specs.Calls.Embedded.{IsFaultlessLayer};
-ghost use Rattle.mvt_tile.specs.Calls.OneWalk.{PassesLayer};
-ghost use Rattle.mvt_tile.specs.Calls.Passed.{ArePartsPassed};
-ghost use Rattle.mvt_tile.specs.Calls.RuleFaults.{IsSummary};
-ghost use Rattle.mvt_tile.specs.Sound.{AreSoundBefore, tells_none};
+ghost use Rattle.std.specs.Prelude.{◌≤◌, IfOk, IfSome, IsTrue, OnOk};
+ghost use Rattle.mvt_wire.specs.Embedded.{LiesIn, span_in};
+ghost use Rattle.mvt_wire.specs.Field.{entry_of};
+ghost use Rattle.mvt_wire.specs.declared.schema.Message.TheVariants as messages;
+ghost use Rattle.mvt_rules.specs.Parts.Fields.{FitsRule};
+ghost use Rattle.mvt_rules.specs.Tile.{FeatureRecord};
+ghost use Rattle.mvt_tile.specs.Calls.OneWalk.{IsRightLayer, IsSeenIn, PassesField};
 
 use super::feature::{FeatureTest, passes_feature};
 use super::value::is_one_field;
@@ -15,7 +14,7 @@ use crate::seen::Seen;
 use crate::wire::scan::FieldScan;
 use mvt_wire::field_number::{FEATURES, VALUES};
 use mvt_wire::payload::payload_span;
-use mvt_wire::{Message, Part};
+use mvt_wire::{Field, Message, Part};
 use std::alloc::AllocError;
 
 /// The summary of the layer that a part of the bytes holds, if it is known to have no wire fault, and
@@ -31,22 +30,12 @@ pub(crate) fn walk_layer<'a, T: FeatureTest>(
     buffer: &mut FeatureBuffer,
     seen: &mut Seen,
 ) -> Result<Option<LayerSummary<'a>>, AllocError>
-    ensures wire { IfOk result (λ found. IfSome found (λ _. (ordinal : ℕ)
-        → IsFaultlessLayer part.entry.bytes.now ordinal (span_in part.entry))) }
-    ensures summary { IfOk result (λ found. IfSome found (λ summary. (layer_record : LayerRecord)
-        → Holds IsLayer part.entry layer_record → IsSummary summary layer_record)) }
-    ensures rules { IfOk result (λ found. IfSome found (λ _. (ordinal : ℕ)
-        → PassesLayer (T.IsKept test.new) part.entry.bytes.now ordinal (span_in part.entry))) }
+    ensures found { IfOk result (λ found. IfSome found (IsRightLayer (T.IsKept test.new)
+        part.entry.bytes.now (span_in part.entry))) }
     ensures still { OnOk result ((feature_record : FeatureRecord)
         → T.IsKept test.old feature_record → T.IsKept test.new feature_record) }
-    ensures passed { IfOk result (λ found. IfNone found
-        (ArePartsPassed part.entry.bytes.now seen.new.to (span_in part.entry))) }
-    ensures sound { IfOk result (λ found. IfNone found ((layer : ℕ)
-        → AreSoundBefore tells_none (T.IsKept test.new) part.entry.bytes.now
-        (part.entry.to - part.entry.from) (part.entry.to - part.entry.from) seen.new layer
-        (span_in part.entry))) }
-    ensures begun { IfOk result (λ found. IfNone found (part.entry.from ≤ seen.new.to)) }
-    ensures inside { IfOk result (λ found. IfNone found (seen.new.to ≤ part.entry.to)) }
+    ensures seen { OnOk result (IsSeenIn (T.IsKept test.new) part.entry.bytes.now seen.new
+        (span_in part.entry)) }
 {
     let front = &part.bytes[..part.to];
     let most = part.to - part.from;
@@ -56,20 +45,9 @@ pub(crate) fn walk_layer<'a, T: FeatureTest>(
     let mut at = part.from;
     'walk: while let Some((field, next)) = own.pass_usual::<7>(Message::Layer, front, at) {
         add_field(&mut summary, field);
-        if field.number == FEATURES {
-            let (from, to) = payload_span(field.body);
-            let bytes = part.bytes;
-            if !passes_feature(Part { bytes, from, to }, test, buffer, most, &mut needs)? {
-                *seen = Seen { to: next, needs };
-                return Ok(None);
-            }
-        } else if field.number == VALUES {
-            let (from, to) = payload_span(field.body);
-            let bytes = part.bytes;
-            if !is_one_field(Part { bytes, from, to }) {
-                *seen = Seen { to: next, needs };
-                return Ok(None);
-            }
+        if !passes_field(part.bytes, field, test, buffer, most, &mut needs)? {
+            *seen = Seen { to: next, needs };
+            return Ok(None);
         }
         at = next;
     }
@@ -81,4 +59,35 @@ pub(crate) fn walk_layer<'a, T: FeatureTest>(
         return Ok(None);
     }
     Ok(Some(summary))
+}
+
+/// Whether a field of a layer is known to hold no value that has a wire fault, and no feature that
+/// has a fault. Adds what its tags need. The only error is that memory was refused.
+#[inline(always)]
+fn passes_field<T: FeatureTest>(
+    bytes: &[u8],
+    field: Field<'_>,
+    test: &mut T,
+    buffer: &mut FeatureBuffer,
+    most: usize,
+    needs: &mut TagNeeds,
+) -> Result<bool, AllocError>
+    requires fits { FitsRule messages.Layer (entry_of field) }
+    requires lies { LiesIn bytes.now (entry_of field) }
+    ensures no_fewer_keys { needs.old.keys ≤ needs.new.keys }
+    ensures no_fewer_values { needs.old.values ≤ needs.new.values }
+    ensures passes { IfOk result (λ passes. IsTrue passes → PassesField (T.IsKept test.new)
+        bytes.now most needs.new (entry_of field.entry)) }
+    ensures still { (feature_record : FeatureRecord) → T.IsKept test.old feature_record
+        → T.IsKept test.new feature_record }
+{
+    if field.number == FEATURES {
+        let (from, to) = payload_span(field.body);
+        passes_feature(Part { bytes, from, to }, test, buffer, most, needs)
+    } else if field.number == VALUES {
+        let (from, to) = payload_span(field.body);
+        Ok(is_one_field(Part { bytes, from, to }))
+    } else {
+        Ok(true)
+    }
 }

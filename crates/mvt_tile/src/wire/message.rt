@@ -20,15 +20,11 @@ pub(crate) fn message_fault<const COPY: usize>(
     let mut scan = FieldScan::new();
     let mut at = part.from;
     'walk: loop {
-        let (_, next) = match scan.pass_usual::<COPY>(message, front, at) {
-            Some(read) => read,
-            None if at == part.to => return scan.end_fault(message, part.to),
-            None => match scan.pass_any(message, front, at) {
-                Ok(read) => read,
-                Err(cause) => return Some(cause),
-            },
-        };
-        at = next;
+        match scan.pass_next::<COPY>(message, front, at) {
+            Ok(Some((_, next))) => at = next,
+            Ok(None) => return scan.end_fault(message, part.to),
+            Err(cause) => return Some(cause),
+        }
     }
 }
 

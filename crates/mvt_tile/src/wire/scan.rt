@@ -1,7 +1,7 @@
 //! The faults of a message's own fields, as one walk over them finds them.
-ghost use Rattle.std.specs.Prelude.{◌≡◌, ℕ, ◌<◌, ◌≤◌, ◌^◌, List, [], ◌∷◌, ◌++◌, IfNone, IfSome, ◌&&◌, not};
+ghost use Rattle.std.specs.Prelude.{◌≡◌, ℕ, ◌<◌, ◌≤◌, ◌^◌, List, [], ◌∷◌, ◌++◌, IfNone, IfSome, Some, ◌&&◌, not};
 ghost use Rattle.mvt_wire.specs.Field.{Entry, IsField, entry_of};
-ghost use Rattle.mvt_wire.specs.Schema.{is_required};
+ghost use Rattle.mvt_wire.specs.Schema.{is_required, rule_of};
 ghost use Rattle.mvt_rules.specs.WireFault.{EndFault};
 ghost use Rattle.mvt_tile.specs.Calls.Least.{FindsLeastCause};
 
@@ -21,7 +21,7 @@ pub(crate) struct FieldScan {
 }
 
 impl FieldScan {
-    ghost use Rattle.mvt_tile.specs.Calls.FieldScan.{HasScanned, IsFirstFieldFault, IsMissing, was_seen};
+    ghost use Rattle.mvt_tile.specs.Calls.FieldScan.{HasKept, HasScanned, IsFirstFieldFault, IsMissing, PassesKnown, was_seen};
 
     /// No field was passed. (Inlined, so that where the fields come in a known order, what has occurred
     /// is known when this is compiled.)
@@ -50,19 +50,46 @@ impl FieldScan {
             → IsFirstFieldFault message (entries ++ entry_of field.now ∷ []) next cause) }
         ensures unchanged { IfSome result (λ cause. self.new ≡ self.old) }
     {
-        let Some(rule) = message.rule(field.number) else {
-            return None;
-        };
-        let number = field.number as usize;
-        if let Some(cause) = field_fault(rule, self.occurred[number], field) {
-            return Some(cause);
+        match message.rule(field.number) {
+            None => None,
+            Some(rule) => self.pass_known(message, rule, field),
         }
+    }
+
+    /// The same for a field of a number that the message knows by a rule.
+    #[inline(always)]
+    fn pass_known(
+        &mut self,
+        message: Message,
+        rule: FieldRule,
+        field: &Field<'_>,
+    ) -> Option<WireCause>
+        requires known { rule_of message field.now.number ≡ Some rule }
+        requires placed { (bytes : List ℕ) × (next : ℕ) × IsField bytes next (entry_of field.now)
+            × (next < 2 ^ 64) }
+        ensures { PassesKnown message rule (entry_of field.now) self.old self.new result }
+    {
+        let number = field.number as usize;
+        match field_fault(rule, self.occurred[number], field) {
+            None => {
+                self.keep(message, number);
+                None
+            }
+            Some(cause) => Some(cause),
+        }
+    }
+
+    /// Keeps that a number has occurred.
+    #[inline(always)]
+    fn keep(&mut self, message: Message, number: usize)
+        requires { number < 16 }
+        ensures { HasKept message self.old self.new number }
+    {
         self.occurred[number] = true;
         if message == Message::Value {
             self.several = self.known;
             self.known = true;
         }
-        None
     }
 
     /// What is wrong with the message at its end, all fields of which were passed.

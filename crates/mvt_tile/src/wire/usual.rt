@@ -1,7 +1,7 @@
 //! The next field of a message, read and passed at once.
 ghost use Rattle.std.specs.Prelude.{◌≡◌, ◌+◌, ◌<◌, ◌≤◌, length, slice_index, IfNone, IfSome, IfOk, IfErr};
 ghost use Rattle.mvt_wire.specs.Varint.{EncodesVarint};
-ghost use Rattle.mvt_tile.specs.Calls.FieldScan.{PassesNext, IsFirstFrom};
+ghost use Rattle.mvt_tile.specs.Calls.FieldScan.{PassesNext, PassesOrNot, IsFirstFrom, StartsWith};
 
 use crate::wire::scan::FieldScan;
 use mvt_wire::{
@@ -25,8 +25,7 @@ impl FieldScan {
         at: usize,
     ) -> Option<(Field<'a>, usize)>
         requires { at ≤ length bytes.now }
-        ensures passed { IfSome result (PassesNext message bytes.now at self.old self.new) }
-        ensures unchanged { IfNone result (self.new ≡ self.old) }
+        ensures { PassesOrNot message bytes.now at self.old self.new result }
     {
         if bytes.len() - at < 2 {
             return None;
@@ -56,6 +55,33 @@ impl FieldScan {
         }
     }
 
+    /// Passes the field at an offset, whatever it is, unless that is the end of the bytes. Returns the
+    /// field and the offset after it.
+    ///
+    /// Errors: the message's first fault.
+    #[inline(always)]
+    pub(crate) fn pass_next<'a, const COPY: usize>(
+        &mut self,
+        message: Message,
+        bytes: &'a [u8],
+        at: usize,
+    ) -> Result<Option<(Field<'a>, usize)>, WireCause>
+        requires { at ≤ length bytes.now }
+        ensures passed { IfOk result (λ read. IfSome read
+            (PassesNext message bytes.now at self.old self.new)) }
+        ensures end { IfOk result (λ read. IfNone read
+            ((at ≡ length bytes.now) × (self.new ≡ self.old))) }
+        ensures fault { IfErr result (IsFirstFrom message bytes.now at self.old) }
+    {
+        if let Some(read) = self.pass_usual::<COPY>(message, bytes, at) {
+            return Ok(Some(read));
+        }
+        if at == bytes.len() {
+            return Ok(None);
+        }
+        Ok(Some(self.pass_any(message, bytes, at)?))
+    }
+
     /// The same for a field that begins with a key. It returns None where it begins with another.
     #[inline(always)]
     pub(crate) fn pass_of<'a>(
@@ -68,8 +94,7 @@ impl FieldScan {
         requires within { at ≤ length bytes.now }
         requires numbered { 8 ≤ key }
         requires short { key < 128 }
-        ensures passed { IfSome result (PassesNext message bytes.now at self.old self.new) }
-        ensures unchanged { IfNone result (self.new ≡ self.old) }
+        ensures { PassesOrNot message bytes.now at self.old self.new result }
     {
         if bytes.len() - at < 2 || bytes[at] != key {
             return None;
@@ -89,13 +114,8 @@ impl FieldScan {
         value: u64,
         start: usize,
     ) -> Option<(Field<'a>, usize)>
-        requires within { at + 2 ≤ length bytes.now }
-        requires key { slice_index bytes.now at ≡ key }
-        requires leading { EncodesVarint bytes.now (at + 1) start value }
-        requires numbered { 8 ≤ key }
-        requires short { key < 128 }
-        ensures passed { IfSome result (PassesNext message bytes.now at self.old self.new) }
-        ensures unchanged { IfNone result (self.new ≡ self.old) }
+        requires { StartsWith bytes.now at key value start }
+        ensures { PassesOrNot message bytes.now at self.old self.new result }
     {
         let (field, next) = field_after(bytes, at, key, value, start)?;
         if self.pass(message, &field).is_some() {
@@ -117,8 +137,7 @@ impl FieldScan {
         requires key { slice_index bytes.now at ≡ key }
         requires numbered { 8 ≤ key }
         requires short { key < 128 }
-        ensures passed { IfSome result (PassesNext message bytes.now at self.old self.new) }
-        ensures unchanged { IfNone result (self.new ≡ self.old) }
+        ensures { PassesOrNot message bytes.now at self.old self.new result }
     {
         let (field, next) = fixed_after(bytes, at, key)?;
         match self.pass(message, &field) {
@@ -141,8 +160,7 @@ impl FieldScan {
         requires within { at + 2 ≤ length bytes.now }
         requires key { slice_index bytes.now at ≡ key }
         requires leading { EncodesVarint bytes.now (at + 1) start value }
-        ensures passed { IfSome result (PassesNext message bytes.now at self.old self.new) }
-        ensures unchanged { IfNone result (self.new ≡ self.old) }
+        ensures { PassesOrNot message bytes.now at self.old self.new result }
     {
         if key < 8 || key >= 128 {
             return None;

@@ -14,6 +14,16 @@ bounds-spans-number c =
     c.index.result.now c.index.ensures in
     omega arith
 
+pub bounds-cells-number : goal.bounds-cells-number
+bounds-cells-number c =
+    let below = read_within c.args.spans.now c.args.cells.now c.args.marks.now c.in_ok-order.order.items c.in_ok-order.ensures c.loop-at.cells c.loop-at.at c.loop-at.cell _ (pos 0) (omega arith) c.loop-at.invariant
+    c.index.result.now c.index.ensures in
+    let size = c.loop-at.invariant.size in
+    omega arith
+
+pub cell_order-requires-clause-marks : goal.cell_order-requires-clause-marks
+cell_order-requires-clause-marks c = c.requires.marks.size
+
 pub loop-at-preserved : goal.loop-at-preserved
 loop-at-preserved c =
     let spans = c.args.spans.now in

@@ -157,3 +157,15 @@ returns-clause-halves c = record {
   none_left = omega (arith, c.halves-test.false);
   halves = c.halves.invariant.halves;
 }
+
+pub bounds-polygons-middle : goal.bounds-polygons-middle
+bounds-polygons-middle c =
+    omega (arith, c.halves.invariant.halved.within, c.halves-test.true)
+
+pub returns-clause-probed : goal.returns-clause-probed
+returns-clause-probed c =
+    c.halves.invariant.probed
+
+pub returns-clause-tested : goal.returns-clause-tested
+returns-clause-tested c =
+    c.halves.invariant.tested

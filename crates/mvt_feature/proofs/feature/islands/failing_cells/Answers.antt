@@ -91,3 +91,37 @@ loop-polygon-preserved c =
             | else-land-polygon-via-else-land-polygon w' ↦ no_land w'.if-land-polygon.false
           ]))
     ]
+
+pub bounds-cells-polygon : goal.bounds-cells-polygon
+bounds-cells-polygon c =
+    omega (arith, c.requires.cells.size, c.loop-polygon-test.true)
+
+pub bounds-lands-cell : goal.bounds-lands-cell
+bounds-lands-cell c =
+    let below = c.requires.cells.below c.loop-polygon.polygon c.loop-polygon-test.true in
+    omega (arith, c.requires.cells.size, c.requires.lands.known.size)
+
+pub index-requires : goal.index-requires
+index-requires c =
+    let below = c.requires.cells.below c.loop-polygon.polygon c.loop-polygon-test.true in
+    omega (arith, c.requires.cells.size, c.loop-polygon.invariant.size)
+
+pub bounds-lakes-polygon : goal.bounds-lakes-polygon
+bounds-lakes-polygon c =
+    omega (arith, c.requires.lakes.size, c.loop-polygon-test.true)
+
+pub bounds-polygons-land : goal.bounds-polygons-land
+bounds-polygons-land c =
+    let below = c.requires.cells.below c.loop-polygon.polygon c.loop-polygon-test.true in
+    let land = c.requires.lands.known.below (get_or c.args.cells.now c.loop-polygon.polygon 0) (omega (arith, c.requires.cells.size)) in
+    omega (arith, c.requires.cells.size)
+
+pub index_mut-requires : goal.index_mut-requires
+index_mut-requires c =
+    let below = c.requires.cells.below c.loop-polygon.polygon c.loop-polygon-test.true in
+    omega (arith, c.requires.cells.size, c.loop-polygon.invariant.size)
+
+pub returns : goal.returns
+returns c =
+    subst (λ (count : ℕ). AreFailing (rings_of c.args.rings.now) c.args.polygons.now c.args.cells.now c.args.lands.now c.args.lakes.now count c.loop-polygon.failing.items)
+    (omega (arith, c.loop-polygon-test.false, c.loop-polygon.auto.polygon-end)) c.loop-polygon.invariant

@@ -1,4 +1,4 @@
-use Rattle.std.proofs.Common.{Bool, Vec, List, Option, ℕ, length, subst}
+use Rattle.std.proofs.Common.{Bool, Vec, List, Option, ℕ, length, ◌∙◌, subst}
 use Rattle.std.proofs.lemmas.Result.{IfOk-weaker}
 use Rattle.std.specs.declared.alloc.Global.{Global}
 use Rattle.mvt_feature.specs.Calls.Islands.{AreMarked}
@@ -22,3 +22,19 @@ returns c =
     marked_of_failing rings polygons cells lands beside lakes failing c.requires.cells c.requires.beside c.in_ok-lakes.ensures.unmarked told marks.items c.requires.parted
     (subst (λ (count : ℕ). AreOfFailing cells failing count marks.items) c.requires.cells.size (subst (λ (its : List Bool). AreOfFailing cells its (length cells) marks.items) c.deref-2.ensures.value of_failing)))
     c.of_failing.ensures
+
+pub lakes-requires-clause-marks : goal.lakes-requires-clause-marks
+lakes-requires-clause-marks c =
+    c.requires.beside.size ∙ c.requires.cells.size
+
+pub failing_cells-requires-clause-lakes : goal.failing_cells-requires-clause-lakes
+failing_cells-requires-clause-lakes c =
+    rw c.deref.ensures.value c.in_ok-lakes.ensures.only
+
+pub of_failing-requires-clause-cells : goal.of_failing-requires-clause-cells
+of_failing-requires-clause-cells c =
+    rw c.requires.cells.size c.requires.cells
+
+pub of_failing-requires-clause-failing : goal.of_failing-requires-clause-failing
+of_failing-requires-clause-failing c =
+    rw c.deref-2.ensures.value c.in_ok-failing.ensures.size

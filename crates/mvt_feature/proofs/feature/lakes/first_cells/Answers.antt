@@ -78,3 +78,16 @@ loop-polygon-preserved c =
           (λ _. get_or-set_same before it.exterior cell 0 (omega (arith, count_of_rings c.args.rings.now)))
           (λ land. absurd (w.if-lands-cell.false land)))
     ]
+
+pub bounds-cells-polygon : goal.bounds-cells-polygon
+bounds-cells-polygon c =
+    omega (arith, c.requires.cells.size, c.loop-polygon-test.true)
+
+pub bounds-lands-cell : goal.bounds-lands-cell
+bounds-lands-cell c =
+    let below = c.requires.cells.below c.loop-polygon.polygon c.loop-polygon-test.true in
+    omega (arith, c.requires.cells.size, c.requires.lands.known.size)
+
+pub returns : goal.returns
+returns c =
+    subst (λ (count : ℕ). AreFirstCells c.args.polygons.now c.args.cells.now c.args.lands.now count (length c.args.rings.now) c.loop-polygon.first.items) (omega (arith, c.loop-polygon-test.false, c.loop-polygon.auto.polygon-end)) c.loop-polygon.invariant

@@ -1,4 +1,4 @@
-use Rattle.std.proofs.Common.{◌+◌, length, List, sym, ◌∙◌, ap, subst, arith}
+use Rattle.std.proofs.Common.{ℕ, ◌+◌, length, List, sym, ◌∙◌, ap, subst, arith}
 use Rattle.mvt_feature.specs.Calls.FeatureParts.{listed_at}
 use Rattle.mvt_feature.specs.Calls.Lands.{AreHeld, IsHeld}
 use Rattle.mvt_sweep.specs.Rings.{rings_of}
@@ -37,3 +37,15 @@ loop-polygon-preserved c =
     (more_held polygons ring_cells polygon before newer c.loop-polygon.invariant (c.hold.ensures.size ∙ ap length value)
     (λ hole is. let following = is.following in c.hold.ensures.added hole (omega arith) is.before)
     (λ hole is. c.hold.ensures.kept hole (subst (λ (held : List Held). IsHeld ring_cells held hole) (sym value) is)))
+
+pub hold-requires-clause-cells : goal.hold-requires-clause-cells
+hold-requires-clause-cells c =
+    rw c.requires.cells.size c.requires.cells
+
+pub hold-requires-clause-size : goal.hold-requires-clause-size
+hold-requires-clause-size c =
+    ap length c.deref_mut.ensures.value ∙ c.loop-polygon.invariant.size
+
+pub returns : goal.returns
+returns c =
+    subst (λ (count : ℕ). AreHeld c.args.polygons.now c.args.ring_cells.now count c.loop-polygon.held.items) (omega (arith, c.loop-polygon-test.false, c.loop-polygon.auto.polygon-end)) c.loop-polygon.invariant

@@ -1,6 +1,6 @@
 use Rattle.std.proofs.Common.{◌≡◌, ◌<◌, ℕ, false, List, Some, length, get_or, sym, ◌∙◌, ap, subst, arith}
 use Rattle.mvt_feature.specs.Calls.FeatureParts.{listed_at}
-use Rattle.mvt_feature.specs.Calls.Lands.{AreHeld, IsLakeOf, land_of}
+use Rattle.mvt_feature.specs.Calls.Lands.{AreHeld, AreLakes, IsLakeOf, land_of}
 use Rattle.mvt_sweep.specs.Rings.{rings_of}
 use Rattle.mvt_feature.specs.declared.feature.lakes.Held.{Held}
 use Rattle.mvt_feature.specs.declared.feature.lakes.Held.TheVariants.{Empty}
@@ -76,3 +76,39 @@ loop-polygon-preserved c =
           (λ hole there. subst (λ (number : ℕ). get_or marks number false ≡ false) (sym c.loop-polygon.invariant.only.size) (of_it hole there).unmarked)
           c.in_ok-push.ensures.items;
     }
+
+pub have_several-requires : goal.have_several-requires
+have_several-requires c =
+    rw c.requires.cells.size at c.requires.lands.known
+
+pub held_holes-requires-clause-cells : goal.held_holes-requires-clause-cells
+held_holes-requires-clause-cells c =
+    rw c.deref.ensures.value c.in_ok-ring_cells.ensures.known
+
+pub bounds-cells-polygon : goal.bounds-cells-polygon
+bounds-cells-polygon c =
+    omega (arith, c.requires.cells.size, c.loop-polygon-test.true)
+
+pub bounds-lands-cells : goal.bounds-lands-cells
+bounds-lands-cells c =
+    let below = c.requires.cells.below c.loop-polygon.polygon c.loop-polygon-test.true in
+    omega (arith, c.requires.cells.size, c.requires.lands.known.size)
+
+pub bounds-polygons-lands : goal.bounds-polygons-lands
+bounds-polygons-lands c =
+    let below = c.requires.cells.below c.loop-polygon.polygon c.loop-polygon-test.true in
+    let land = c.requires.lands.known.below (get_or c.args.cells.now c.loop-polygon.polygon 0) (omega (arith, c.requires.cells.size)) in
+    omega (arith, c.requires.cells.size)
+
+pub bounds-marks-polygon : goal.bounds-marks-polygon
+bounds-marks-polygon c =
+    omega (arith, c.requires.marks, c.loop-polygon-test.true)
+
+pub returns-clause-only : goal.returns-clause-only
+returns-clause-only c =
+    subst (λ (count : ℕ). AreLakes (rings_of c.args.rings.now) c.args.polygons.now c.args.cells.now c.args.lands.now count c.loop-polygon.lakes.items)
+    (omega (arith, c.loop-polygon-test.false, c.loop-polygon.auto.polygon-end)) c.loop-polygon.invariant.only
+
+pub returns-clause-unmarked : goal.returns-clause-unmarked
+returns-clause-unmarked c =
+    c.loop-polygon.invariant.unmarked

@@ -1,4 +1,5 @@
 use Rattle.std.proofs.Common.{sym, ◌∙◌, subst, length}
+use Rattle.mvt_feature.specs.Calls.Cells.{AreCells}
 use Rattle.mvt_feature.specs.Calls.Lands.{AreLakesParted}
 use Rattle.mvt_sweep.specs.Rings.{rings_of}
 use Rattle.mvt_feature.proofs.Cells.Lakes.{lakes_parted}
@@ -20,3 +21,17 @@ returns-clause-parted c =
     let written = written_back its first c.in_ok-its.its.len (c.in_ok-part_in_turn.ensures.known.size ∙ c.deref_mut.ensures.len) in
     subst (AreLakesParted rings polygons cells lands) (sym written)
     (lakes_parted rings polygons cells lands (length c.args.rings.now) across upward first its (count_of_rings c.args.rings.now) c.requires.cells c.requires.lands c.in_ok-across.ensures c.in_ok-its.ensures refined)
+
+pub part_in_turn-requires-clause-across : goal.part_in_turn-requires-clause-across
+part_in_turn-requires-clause-across c =
+    rw (c.deref.ensures.value, c.deref_mut.ensures.value) (c.in_ok-across.ensures.across_size ∙ sym c.in_ok-its.ensures.size)
+
+pub part_in_turn-requires-clause-upward : goal.part_in_turn-requires-clause-upward
+part_in_turn-requires-clause-upward c =
+    rw (c.deref-2.ensures.value, c.deref_mut.ensures.value) (c.in_ok-across.ensures.upward_size ∙ sym c.in_ok-its.ensures.size)
+
+pub returns-clause-known : goal.returns-clause-known
+returns-clause-known c =
+    let known = c.in_ok-part_in_turn.ensures.known in
+    let written = written_back c.part_in_turn.new.cells c.in_ok-its.its.items c.in_ok-its.its.len (known.size ∙ c.deref_mut.ensures.len) in
+    subst (AreCells (length c.args.rings.now)) (sym written) (rw (c.deref_mut.ensures.value, c.in_ok-its.ensures.size) at known)

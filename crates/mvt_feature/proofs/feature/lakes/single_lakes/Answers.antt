@@ -24,3 +24,26 @@ loop-polygon-preserved c =
 
 pub returns-clause-only : goal.returns-clause-only
 returns-clause-only c = λ rings. subst (λ (count : ℕ). AreLakes rings c.args.polygons.now c.args.cells.now c.args.lands.now count c.loop-polygon.lakes.items) (omega (arith, c.loop-polygon-test.false, c.loop-polygon.auto.polygon-end)) (c.loop-polygon.invariant.only rings)
+
+pub bounds-cells-polygon : goal.bounds-cells-polygon
+bounds-cells-polygon c =
+    omega (arith, c.requires.cells.size, c.loop-polygon-test.true)
+
+pub bounds-lands-cells : goal.bounds-lands-cells
+bounds-lands-cells c =
+    let below = c.requires.cells.below c.loop-polygon.polygon c.loop-polygon-test.true in
+    omega (arith, c.requires.cells.size, c.requires.lands.known.size)
+
+pub bounds-polygons-lands : goal.bounds-polygons-lands
+bounds-polygons-lands c =
+    let below = c.requires.cells.below c.loop-polygon.polygon c.loop-polygon-test.true in
+    let land = c.requires.lands.known.below (get_or c.args.cells.now c.loop-polygon.polygon 0) (omega (arith, c.requires.cells.size)) in
+    omega (arith, c.requires.cells.size)
+
+pub bounds-marks-polygon : goal.bounds-marks-polygon
+bounds-marks-polygon c =
+    omega (arith, c.requires.marks, c.loop-polygon-test.true)
+
+pub returns-clause-unmarked : goal.returns-clause-unmarked
+returns-clause-unmarked c =
+    c.loop-polygon.invariant.unmarked

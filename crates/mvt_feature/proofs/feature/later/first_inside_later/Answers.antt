@@ -1,4 +1,5 @@
 use Rattle.std.proofs.Common.{below_more, refl, arith}
+use Rattle.std.proofs.lemmas.Option.{slice_get_within}
 use Rattle.mvt_sweep.specs.Rings.{rings_of}
 use Rattle.mvt_polygon.proofs.ApartFaults.{rings_listed}
 use Rattle.mvt_feature.proofs.feature.later.first_inside_later.Goals as goal
@@ -21,3 +22,18 @@ loop-polygon-preserved c = below_more _ _ c.loop-polygon.invariant c.in_default.
 
 pub returns-clause-none : goal.returns-clause-none
 returns-clause-none c = λ polygon less. c.loop-polygon.invariant polygon (omega (arith, c.loop-polygon-test.false))
+
+pub vertex_in_later-requires-clause-later : goal.vertex_in_later-requires-clause-later
+vertex_in_later-requires-clause-later c =
+    c.requires.later
+
+pub vertex_in_later-requires-clause-spread : goal.vertex_in_later-requires-clause-spread
+vertex_in_later-requires-clause-spread c =
+    c.in_ok-spread.ensures
+
+pub returns-then-later-polygons-clause-none : goal.returns-then-later-polygons-clause-none
+returns-then-later-polygons-clause-none c =
+    λ polygon below vertex other up fault.
+    let its = fault.other_rings in
+    let within = slice_get_within c.args.polygons.now other (its.exterior, its.after) (c.requires.listed.all other its fault.other_there) in
+    absurd (omega (arith, c.if-later-polygons.true))

@@ -8,6 +8,7 @@ use Rattle.mvt_sweep.specs.RingsAround.{nearest_at}
 use Rattle.mvt_feature.specs.declared.feature.passing.Passing.{Passing}
 use Rattle.mvt_feature.proofs.Placed.AddedPassings.{ok_always, said_of_added}
 use Rattle.mvt_feature.proofs.Placed.OwnPassings.{own_passing}
+use Rattle.mvt_sweep.proofs.Sweeps.StatusCounts.{no_work}
 use Rattle.mvt_sweep.proofs.Vertices.RingReads.{count_of_rings}
 use Rattle.mvt_sweep.specs.Work.{vertex_count}
 use Rattle.mvt_status.specs.Counts.{raised}
@@ -38,3 +39,20 @@ returns-clause-least c =
     let rings = rings_of c.args.rings.now in
     let least = rw c.in-Clear.is at c.in_ok-notes.ensures.least in
     ok_always c.push_passings.result (1 < length c.args.rings.now → raised (vertex_count rings) c.args.count.now.probes ≤ c.sweep_rings.new.count.probes) (λ _. least)
+
+pub push_passings-requires : goal.push_passings-requires
+push_passings-requires c =
+    let noted = rw c.in-Clear.is at c.in_ok-notes.ensures.answer in
+    omega (arith, noted.noted.count, count_of_rings c.args.rings.now)
+
+pub returns-then-rings-eq1-clause-counted : goal.returns-then-rings-eq1-clause-counted
+returns-then-rings-eq1-clause-counted c =
+    no_work c.args.count.now
+
+pub returns-in_err-push-clause-counted : goal.returns-in_err-push-clause-counted
+returns-in_err-push-clause-counted c =
+    no_work c.args.count.now
+
+pub returns-clause-counted : goal.returns-clause-counted
+returns-clause-counted c =
+    c.sweep_rings.ensures.counted

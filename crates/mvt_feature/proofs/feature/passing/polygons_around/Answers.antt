@@ -76,3 +76,14 @@ pub returns-clause-counts : goal.returns-clause-counts
 returns-clause-counts c =
     all_counted c.args.notes.now.around.items c.args.notes.now.come_to.items c.args.passings.now c.loop-at.at c.loop-at.around.items c.requires.inwards
     (omega (arith, ap length c.come_to-rings.ensures, c.loop-at-test.false)) c.loop-at.invariant
+
+pub index_mut-requires : goal.index_mut-requires
+index_mut-requires c =
+    let at = c.loop-at.at in
+    let own = get_or c.come_to-rings.result.now at 0 in
+    let here = come_here c.come_to-rings.result.now c.args.notes.now.come_to.items at c.come_to-rings.ensures c.loop-at-test.true in
+    omega (arith, c.requires.inwards.only at own here, c.loop-at.invariant.size)
+
+pub returns-clause-size : goal.returns-clause-size
+returns-clause-size c =
+    c.loop-at.invariant.size

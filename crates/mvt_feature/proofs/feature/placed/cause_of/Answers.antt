@@ -1,4 +1,5 @@
-use Rattle.std.proofs.Common.{◌≡◌, ◌+◌, ◌-◌, ◌^◌, ◌<◌, ℕ, List, length, get_or, Vec, rules, refl, sym, ◌∙◌, subst, arith}
+use Rattle.std.proofs.Common.{◌≡◌, ◌+◌, ◌-◌, ◌^◌, ◌<◌, ℕ, List, length, drop, get_or, Vec, rules, refl, sym, ◌∙◌, subst, arith}
+use Rattle.std.proofs.lemmas.List.{length-drop, length-take-le}
 use Rattle.std.specs.declared.alloc.Global.{Global}
 use Rattle.mvt_rules.specs.Nesting.{IsVertexOf}
 use Rattle.mvt_plane.specs.Position.{Position}
@@ -10,6 +11,7 @@ use Rattle.mvt_feature.proofs.Placed.AddedPassings.{ends_read}
 use Rattle.mvt_polygon.proofs.PolygonSlices.{nest_rings_known, part_read}
 use Rattle.mvt_polygon.proofs.ApartFaults.{rings_at, rings_listed, ends_within, exterior_read, vertex_there, first_vertex}
 use Rattle.mvt_feature.proofs.Placed.PlacedPolygons.{AreLeftTo, first_of_part, nested_where_left, left_listed, wrong_has_fault, placed_where_none, around_where_some, first_in_slice, some_vertex, exterior_around, part_probes}
+use Rattle.mvt_sweep.proofs.Sweeps.StatusCounts.{no_work}
 use Rattle.mvt_sweep.proofs.Vertices.RingReads.{count_of_rings}
 use Rattle.mvt_feature.proofs.feature.placed.cause_of.Goals as goal
 
@@ -152,3 +154,37 @@ returns-clause-some c =
       nested_where_left rings c.args.polygon it c.requires.clear c.requires.drawn is_it left,
       first_vertex rings c.args.polygon 0 c.in_ok-other.other it c.index-2.result.now is_it here (λ vertex less other fault. absurd (omega arith)) c.in_ok-other.ensures.first,
     )
+
+pub polygon_around-requires : goal.polygon_around-requires
+polygon_around-requires c =
+    record { listed = c.requires.listed }
+
+pub bounds-rings-exterior : goal.bounds-rings-exterior
+bounds-rings-exterior c =
+    exterior_read c.args.rings.now c.args.polygons.now c.args.polygon c.requires.listed c.requires.there
+
+pub returns-in_err-other-clause-counted : goal.returns-in_err-other-clause-counted
+returns-in_err-other-clause-counted c =
+    no_work c.args.count.now
+
+pub returns-clause-counted : goal.returns-clause-counted
+returns-clause-counted c =
+    no_work c.args.count.now
+
+pub bounds-rings-hole : goal.bounds-rings-hole
+bounds-rings-hole c =
+    let ends = ends_read c.args.rings.now c.args.polygons.now c.args.polygon c.requires.listed c.requires.there in
+    let wrong = c.in-Some.ensures.some in
+    let before = wrong.before in
+    omega arith
+
+pub fault_of_first_vertex-requires-clause-there : goal.fault_of_first_vertex-requires-clause-there
+fault_of_first_vertex-requires-clause-there c =
+    let it = rings_at c.args.polygons.now c.args.polygon in
+    let ends = ends_read c.args.rings.now c.args.polygons.now c.args.polygon c.requires.listed c.requires.there in
+    let wrong = c.in-Some.ensures.some in
+    let before = wrong.before in
+    let following = wrong.following in
+    let rest = length-drop it.exterior c.args.rings.now in
+    let all = length-take-le (it.after - it.exterior) (drop it.exterior c.args.rings.now) (omega arith) in
+    omega arith

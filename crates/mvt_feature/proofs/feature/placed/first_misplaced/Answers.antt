@@ -76,3 +76,19 @@ pub returns-clause-unswept : goal.returns-clause-unswept
 returns-clause-unswept c =
     absurd (not_placed (rings_of c.args.rings.now) c.args.polygons.now c.args.notes.now c.are_placed.result c.requires.sound c.requires.drawn c.requires.listed c.requires.noted c.are_placed.ensures
     c.if-are_placed.false (placed c))
+
+pub passings-requires-clause-clear : goal.passings-requires-clause-clear
+passings-requires-clause-clear c =
+    c.requires.noted.clear
+
+pub cause_of-requires-clause-clear : goal.cause_of-requires-clause-clear
+cause_of-requires-clause-clear c =
+    c.requires.noted.clear
+
+pub cause_of-requires-clause-size : goal.cause_of-requires-clause-size
+cause_of-requires-clause-size c =
+    rw c.deref-in-loop-polygon.ensures.value c.in_ok-passings.ensures.size
+
+pub cause_of-requires-clause-passed : goal.cause_of-requires-clause-passed
+cause_of-requires-clause-passed c =
+    rw c.deref-in-loop-polygon.ensures.value c.in_ok-passings.ensures.each

@@ -1,5 +1,6 @@
-use Rattle.std.proofs.Common.{◌≡◌, false, [], ◌∷◌, length, sym, subst, arith}
+use Rattle.std.proofs.Common.{◌≡◌, ℕ, false, List, [], ◌∷◌, length, sym, ◌∙◌, subst, arith}
 use Rattle.mvt_feature.specs.Calls.Alone.{IsAloneAnswer}
+use Rattle.mvt_feature.specs.Calls.Islands.{AreMarked}
 use Rattle.mvt_polygon.specs.Polygons.{ArePolygons}
 use Rattle.mvt_feature.specs.QuickFeature.{IsQuickAnswer}
 use Rattle.mvt_sweep.specs.Rings.{rings_of}
@@ -32,3 +33,45 @@ returns-then-len-eq1-clause-by_answer c =
 
 pub returns-then-are_all-clause-answer : goal.returns-then-are_all-clause-answer
 returns-then-are_all-clause-answer c = together_result (rings_of c.args.rings.now) c.check_together_quickly.result c.check_together_quickly.ensures.answer
+
+pub fault_alone-requires-clause-listed : goal.fault_alone-requires-clause-listed
+fault_alone-requires-clause-listed c =
+    subst (ArePolygons (rings_of c.args.rings.now)) (sym c.deref.ensures.value) c.in_ok-polygons.ensures
+
+pub fault_alone-requires-clause-marked : goal.fault_alone-requires-clause-marked
+fault_alone-requires-clause-marked c =
+    omega (arith, c.deref.ensures.len, c.len.ensures, c.if-len-eq1.true)
+
+pub crowded-requires-clause-listed : goal.crowded-requires-clause-listed
+crowded-requires-clause-listed c =
+    subst (ArePolygons (rings_of c.args.rings.now)) (sym c.deref-2.ensures.value) c.in_ok-polygons.ensures
+
+pub check_parted_quickly-requires-clause-listed : goal.check_parted_quickly-requires-clause-listed
+check_parted_quickly-requires-clause-listed c =
+    subst (ArePolygons (rings_of c.args.rings.now)) (sym c.deref-4.ensures.value) c.in_ok-polygons.ensures
+
+pub check_parted_quickly-requires-clause-marked : goal.check_parted_quickly-requires-clause-marked
+check_parted_quickly-requires-clause-marked c =
+    let rings = rings_of c.args.rings.now in
+    let marked = subst (λ (polygons : List (ℕ × ℕ)). AreMarked rings polygons c.in_ok-crowded.crowded.items) (c.deref-2.ensures.value ∙ sym c.deref-4.ensures.value) c.in_ok-crowded.ensures in
+    subst (AreMarked rings c.deref-4.result.now) (sym c.deref-5.ensures.value) marked
+
+pub returns-then-are_all-clause-counted : goal.returns-then-are_all-clause-counted
+returns-then-are_all-clause-counted c =
+    c.check_together_quickly.ensures.counted
+
+pub returns-then-are_all-clause-by_answer : goal.returns-then-are_all-clause-by_answer
+returns-then-are_all-clause-by_answer c =
+    c.check_together_quickly.ensures.by_answer
+
+pub returns-clause-answer : goal.returns-clause-answer
+returns-clause-answer c =
+    c.check_parted_quickly.ensures.answer
+
+pub returns-clause-counted : goal.returns-clause-counted
+returns-clause-counted c =
+    c.check_parted_quickly.ensures.counted
+
+pub returns-clause-by_answer : goal.returns-clause-by_answer
+returns-clause-by_answer c =
+    c.check_parted_quickly.ensures.by_answer

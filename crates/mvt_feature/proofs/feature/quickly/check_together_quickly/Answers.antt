@@ -51,3 +51,11 @@ returns-clause-answer c =
     let found = c.fault_of_second.ensures in
     subst (λ (fault : FeatureFault). IsTogetherAnswer rings (Some fault)) (sym found.is)
     (meeting_of_polygon rings polygons c.fault_of_second.result.polygon meeting c.requires.sound listed found.within found.of found.first meets)
+
+pub first_misplaced-requires-clause-listed : goal.first_misplaced-requires-clause-listed
+first_misplaced-requires-clause-listed c =
+    subst (ArePolygons (rings_of c.args.rings.now)) (sym c.deref.ensures.value) c.in_ok-polygons.ensures
+
+pub first_misplaced-requires-clause-noted : goal.first_misplaced-requires-clause-noted
+first_misplaced-requires-clause-noted c =
+    subst (IsSweptAnswer (rings_of c.args.rings.now)) c.in-Clear.is c.in_ok-notes.ensures.answer

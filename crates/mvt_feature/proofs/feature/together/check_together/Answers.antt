@@ -1,10 +1,10 @@
-use Rattle.std.proofs.Common.{◌≡◌, ℕ, ◌<◌, ◌≤◌, IfNone, IfSome, List, take, Option, option_map, sym, ◌∙◌, ap, ap₂, subst, arith}
+use Rattle.std.proofs.Common.{◌≡◌, ℕ, ◌<◌, ◌≤◌, IfNone, IfSome, List, length, take, Option, Some, None, option_map, sym, ◌∙◌, ap, ap₂, subst, arith}
 use Rattle.std.proofs.lemmas.Grind.{common_steps}
 use Rattle.std.specs.Option.{option_or}
 use Rattle.mvt_plane.specs.Position.{Position}
 use Rattle.mvt_sweep.specs.Work.{vertex_count}
 use Rattle.mvt_feature.specs.Feature.{IsCountedFault, IsFeatureAnswer}
-use Rattle.mvt_feature.specs.Calls.FeatureParts.{AreAllPlaced, fault_after, IsFirstLater, IsFirstMisplaced, IsFront, IsInNoLater, until_of}
+use Rattle.mvt_feature.specs.Calls.FeatureParts.{AreAllPlaced, fault_after, IsAfterFront, IsFirstLater, IsFirstMisplaced, IsFront, IsInNoLater, until_of}
 use Rattle.mvt_rules.specs.Ring.{ArePolygonRings}
 use Rattle.mvt_polygon.specs.Polygons.{ArePolygons}
 use Rattle.mvt_sweep.specs.Rings.{rings_of, AreProperRings}
@@ -17,6 +17,7 @@ use Rattle.mvt_feature.proofs.Features.FirstPolygons.{first_are_listed}
 use Rattle.mvt_feature.proofs.Features.FirstRings.{first_drawn, first_sound}
 use Rattle.mvt_feature.proofs.Features.SweepsOfFeatures.{sweeps_of_feature, sweeps_with_front}
 use Rattle.mvt_feature.proofs.Features.SweepsAdded.{fewer_vertices, no_sweeps}
+use Rattle.mvt_sweep.specs.declared.meeting.Meeting.{Meeting}
 use Rattle.mvt_status.specs.Counts.{raised}
 use Rattle.mvt_feature.proofs.feature.together.check_together.Goals as goal
 
@@ -70,7 +71,28 @@ returns-in_err-misplaced-clause-apart c none =
     sweeps_with_front 1 1 2 (vertex_count its) (vertex_count rings) c.args.count.now c.clear_front.new.count c.first_misplaced.new.count
     (omega (arith, ap vertex_count (first_slice c.args.rings.now k), fewer_vertices k rings)) (omega arith) (c.clear_front.ensures.apart none) c.first_misplaced.ensures.counted
 
+pub clear_front-requires-clause-listed : goal.clear_front-requires-clause-listed
+clear_front-requires-clause-listed c = subst (ArePolygons (rings_of c.args.rings.now)) (sym c.deref.ensures.value) c.in_ok-polygons.ensures
+
 -- Later polygons
+
+-- the front is before a polygon with a meeting
+before_meeting : (rings : List (List Position)) (polygons : List (ℕ × ℕ)) (count ring_count : ℕ) (meeting : Option Meeting) → IsAfterFront rings polygons count ring_count meeting
+    → IfSome meeting (λ _. count < length polygons)
+before_meeting rings polygons count ring_count (Some meeting) is = is.0
+before_meeting rings polygons count ring_count None is = tt
+
+pub first_inside_later-requires-clause-listed : goal.first_inside_later-requires-clause-listed
+first_inside_later-requires-clause-listed c = subst (ArePolygons (rings_of c.args.rings.now)) (sym c.deref-3.ensures.value) c.in_ok-polygons.ensures
+
+pub first_inside_later-requires-clause-later : goal.first_inside_later-requires-clause-later
+first_inside_later-requires-clause-later c = omega (arith, c.in_ok-front.ensures.front.polygons_within, c.deref.ensures.len, c.deref-3.ensures.len)
+
+pub following_fault-requires : goal.following_fault-requires
+following_fault-requires c =
+    let front = c.in_ok-front.front in
+    subst (λ (its : List (ℕ × ℕ)). IfSome front.meeting (λ _. front.polygons < length its)) (c.deref.ensures.value ∙ sym c.deref-4.ensures.value)
+    (before_meeting (rings_of c.args.rings.now) c.deref.result.now front.polygons front.rings front.meeting c.in_ok-front.ensures.front.following)
 
 pub first_inside_later-requires-clause-until : goal.first_inside_later-requires-clause-until
 first_inside_later-requires-clause-until c =

@@ -17,13 +17,13 @@ returns-in_default-clause-finds over c =
     rule_decides over.R.FeatureRule.IsBroken over.R.FeatureRule.IsFree over.R.FeatureRule.IsKept (Encodes c.args.feature.now) (IsLike c.args.keys c.args.values c.add.new.self) c.args.layer_index c.args.feature_index c.find_fault-in_default.result c.find_fault-in_default.new.found
     c.find_fault-in_default.ensures.none c.find_fault-in_default.ensures.kept c.find_fault-in_default.ensures.found
     (λ layer_record it encodes like code place broken.
-    let left = c.tags.ensures.all it encodes in
+    let left = c.tags-tags.ensures.all it encodes in
     let same = HasSameTagFaults-like c.args.keys c.args.values c.add.new.self c.in_ok-scan_tags.field-0 layer_record it.tags (c.in_ok-scan_tags.ensures it.tags left).1 c.add.ensures.keys.1 c.add.ensures.values.1 like in
     (rw c.in_default.is at (c.in_ok-scan_tags.ensures it.tags left).0) code place (same.back code place broken))
 
 pub returns-clause-finds : goal.returns-clause-finds
 returns-clause-finds over c = λ layer_record it encodes like.
-    let left = c.tags.ensures.all it encodes in
+    let left = c.tags-tags.ensures.all it encodes in
     let same = HasSameTagFaults-like c.args.keys c.args.values c.add.new.self c.in_ok-scan_tags.field-0 layer_record it.tags (c.in_ok-scan_tags.ensures it.tags left).1 c.add.ensures.keys.1 c.add.ensures.values.1 like in
     of_least (tags_decide over.R.FeatureRule.IsBroken c.args.keys c.args.values layer_record it same c.args.layer_index c.args.feature_index (c.requires.after_tags it c.args.layer_index c.args.feature_index) c.in-Some.code c.in-Some.index
     (rw c.in-Some.is at (c.in_ok-scan_tags.ensures it.tags left).0))

@@ -2,26 +2,20 @@ use Rattle.std.proofs.Common.{◌≡◌, ◌∙◌, ap, sym, arith, to_z, of_z, 
 use Rattle.std.proofs.lemmas.Int.{ints}
 use Rattle.std.specs.Fmt.{signed_decimal}
 use Rattle.serde_json.proofs.OnLiterals.{serde_json_on_literals}
-use Rattle.mvt_engine.proofs.DumpTexts.{braced, signed_text, truth_text}
+use Rattle.mvt_engine.proofs.DumpTexts.{signed_text, truth_text}
 use Rattle.mvt_engine.proofs.dump.value.ValuePart.push_to.Goals as goal
 
-pub returns-in_ok-push_string-in-Text : goal.returns-in_ok-push_string-in-Text
+pub returns-in-Text : goal.returns-in-Text
 unfolding serde_json_on_literals
-returns-in_ok-push_string-in-Text c =
-    rw c.in-Text.is
-    (braced c.push_str-in-Text.result _ _ _ _ _ _ c.in_ok-push_str-in-Text.ensures.bytes c.in_ok-push_string-in-Text.ensures c.push_str-in-Text.ensures.bytes)
+returns-in-Text c = rw c.in-Text.is c.push_keyed.ensures
 
-pub returns-in_ok-push_bytes-in-Float : goal.returns-in_ok-push_bytes-in-Float
+pub returns-in-Float : goal.returns-in-Float
 unfolding serde_json_on_literals
-returns-in_ok-push_bytes-in-Float c =
-    rw c.in-Float.is
-    (braced c.push_str-in-Float-2.result _ _ _ _ _ _ c.in_ok-push_str-in-Float.ensures.bytes c.in_ok-push_bytes-in-Float.ensures c.push_str-in-Float-2.ensures.bytes)
+returns-in-Float c = rw c.in-Float.is c.push_bytes.ensures
 
-pub returns-in_ok-push_bytes-in-Double : goal.returns-in_ok-push_bytes-in-Double
+pub returns-in-Double : goal.returns-in-Double
 unfolding serde_json_on_literals
-returns-in_ok-push_bytes-in-Double c =
-    rw c.in-Double.is
-    (braced c.push_str-in-Double-2.result _ _ _ _ _ _ c.in_ok-push_str-in-Double.ensures.bytes c.in_ok-push_bytes-in-Double.ensures c.push_str-in-Double-2.ensures.bytes)
+returns-in-Double c = rw c.in-Double.is c.push_bytes-in-Double.ensures
 
 pub returns-in-Int : goal.returns-in-Int
 unfolding serde_json_on_literals

@@ -4,19 +4,19 @@ use Rattle.std.proofs.lemmas.List.Sorted.{All-permutation}
 use Rattle.std.proofs.lemmas.Option.{slice_get_read}
 use Rattle.std.proofs.lemmas.Slice.Eq.{bytes_eq-Decides}
 use Rattle.mvt_tile.specs.Calls.Names.{name_key}
-use Rattle.mvt_tile.specs.declared.rules.names.NamedLayer.{NamedLayer}
+use Rattle.mvt_tile.specs.declared.first_places.Held.{Held}
 use Rattle.mvt_tile.proofs.RuleFaults.Names.{IsNamed, IsLeastPair, IsLeastPair-none, pair_kept, pair_taken, one_key, IsNaming-numbered, grouped_by_sort, IsNaming, if_none, if_some}
 use Rattle.mvt_tile.proofs.rules.names.SeveralNames.first_repeated.Goals.{then-layer-next+then-eq+then-comes_first, else-layer-next, else-layer-next-via-then-layer-next+then-eq+else-comes_first, else-layer-next-via-then-layer-next+else-eq, else-layer-next-via-else-layer-next}
 use Rattle.mvt_tile.proofs.rules.names.SeveralNames.first_repeated.Goals as goal
 
-abbrev key : NamedLayer → ℕ
-key named = named.key
+abbrev key : Held → ℕ
+key named = named.number
 
-abbrev name : NamedLayer → List ℕ
-name named = named.name.now
+abbrev name : Held → List ℕ
+name named = named.text.now
 
-abbrev ordinal : NamedLayer → ℕ
-ordinal named = named.ordinal
+abbrev ordinal : Held → ℕ
+ordinal named = named.place
 
 pub loop-at-init : goal.loop-at-init
 loop-at-init c = IsLeastPair-none name ordinal c.args.self c.sort_unstable.new.self.items
@@ -33,7 +33,7 @@ loop-at-preserved c =
     let y = c.index-in-loop-at.result.now in
     let some : 1 ≤ at = c.loop-at.auto.at in
     let within : at < length xs = omega (arith, c.len-at-end.ensures, c.loop-at-test.true) in
-    let keyed = All-permutation (λ (named : NamedLayer). named.key ≡ name_key named.name.now) c.self.inside.names.items xs c.sort_unstable.ensures.permutation c.self.invariant.1 in
+    let keyed = All-permutation (λ (named : Held). named.number ≡ name_key named.text.now) c.self.inside.names.items xs c.sort_unstable.ensures.permutation c.self.invariant.1 in
     elim c.if-layer-next.branch [
       | then-layer-next+then-eq+then-comes_first w ↦
           subst (IsLeastPair name ordinal c.args.self xs (at + 1)) (sym w.found-is)

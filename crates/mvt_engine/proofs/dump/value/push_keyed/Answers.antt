@@ -1,0 +1,5 @@
+use Rattle.mvt_engine.proofs.DumpTexts.{braced}
+use Rattle.mvt_engine.proofs.dump.value.push_keyed.Goals as goal
+
+pub returns : goal.returns
+returns c = braced c.push_str-2.result _ _ _ _ _ _ c.in_ok-push_str.ensures.bytes c.in_ok-push_string.ensures c.push_str-2.ensures.bytes
