@@ -9,6 +9,9 @@ use std::alloc::Global;
 /// So many positions of a ring are tested at most.
 const SAMPLES: usize = 8;
 
+/// The work of such a test for each edge of the other ring.
+const TEST_WORK: u64 = 2;
+
 /// The least and the greatest coordinates of a ring.
 #[derive(Clone, Copy)]
 struct Bounds {
@@ -44,6 +47,13 @@ impl Bounds {
     }
 }
 
+/// A ring's number and its bounds.
+#[derive(Clone, Copy)]
+struct Candidate {
+    ring: u32,
+    bounds: Bounds,
+}
+
 /// By the number of each ring, that of the first one after it in this order around it, or `NO_RING`.
 /// All tests are counted as work.
 pub(super) fn parents_by_tests(
@@ -53,45 +63,45 @@ pub(super) fn parents_by_tests(
     work: &mut Work,
 ) -> Result<Vec<u32>, Stop> {
     let mut parents = vec![in alloc; NO_RING; rings.len()]?;
-    let mut bounds = Vec::with_capacity(alloc, rings.len())?;
-    for ring in rings {
-        bounds.push(Bounds::of(ring))?;
-    }
-    for at in 0..order.len() {
-        let found = parent_by_tests(rings, &bounds, &order[at..], work)?;
-        put(&mut parents, order[at], found)?;
+    let candidates = candidates_in(alloc, rings, order)?;
+    for at in 0..candidates.len() {
+        let found = parent_by_tests(rings, &candidates[at..], work)?;
+        put(&mut parents, candidates[at].ring, found)?;
     }
     Ok(parents)
+}
+
+/// The bounds of rings in this order, so that a search reads them one after another.
+fn candidates_in(alloc: Global, rings: &[&[Point]], order: &[u32]) -> Result<Vec<Candidate>, Stop> {
+    let mut candidates = Vec::with_capacity(alloc, order.len())?;
+    for ring in order {
+        let vertices = rings.get(*ring as usize).ok_or(Stop::GaveUp)?;
+        candidates.push(Candidate {
+            ring: *ring,
+            bounds: Bounds::of(vertices),
+        })?;
+    }
+    Ok(candidates)
 }
 
 /// The first ring around the first one of these.
 fn parent_by_tests(
     rings: &[&[Point]],
-    bounds: &[Bounds],
-    order: &[u32],
+    candidates: &[Candidate],
     work: &mut Work,
 ) -> Result<u32, Stop> {
-    let Some((inner, others)) = order.split_first() else {
+    let Some((inner, others)) = candidates.split_first() else {
         return Ok(NO_RING);
     };
-    let inner = *inner as usize;
     for outer in others {
         spend(work, 1)?;
-        if may_be_around(bounds, inner, *outer as usize)
-            && is_around(rings, inner, *outer as usize, work)?
+        if outer.bounds.contain_middle(&inner.bounds)
+            && is_around(rings, inner.ring as usize, outer.ring as usize, work)?
         {
-            return Ok(*outer);
+            return Ok(outer.ring);
         }
     }
     Ok(NO_RING)
-}
-
-/// Whether the middle of a ring is within the bounds of another one.
-fn may_be_around(bounds: &[Bounds], inner: usize, outer: usize) -> bool {
-    match (bounds.get(inner), bounds.get(outer)) {
-        (Some(inner), Some(outer)) => outer.contain_middle(inner),
-        _ => false,
-    }
 }
 
 /// Whether more than half of the tested positions of a ring are inside another one.
@@ -103,7 +113,8 @@ fn is_around(
 ) -> Result<bool, Stop> {
     let inner = rings.get(inner).ok_or(Stop::GaveUp)?;
     let outer = rings.get(outer).ok_or(Stop::GaveUp)?;
-    spend(work, (outer.len() as u64).saturating_mul(SAMPLES as u64))?;
+    let tests = (outer.len() as u64).saturating_mul(SAMPLES as u64);
+    spend(work, tests.saturating_mul(TEST_WORK))?;
     Ok(is_mostly_inside(inner, outer))
 }
 
