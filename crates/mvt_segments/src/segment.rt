@@ -1,4 +1,7 @@
 //! Parts of the edges that mending works with.
+ghost use Rattle.std.specs.Prelude.{◌≡◌, ◌≢◌, ◌↔◌, ℤ, IsFalse, IsTrue};
+ghost use Rattle.mvt_segments.specs.Segments.{AreEqual, half_edge_keys, joined, segment_keys};
+ghost use Rattle.mvt_segments.specs.Windings.{nothing, reversed, together};
 
 use mvt_plane::{Point, sweep_key};
 
@@ -14,7 +17,9 @@ pub struct Winding {
 
 impl Winding {
     /// Nothing goes round.
-    pub fn none() -> Winding {
+    pub fn none() -> Winding
+        ensures { result ≡ nothing }
+    {
         Winding {
             exterior: 0,
             holes: 0,
@@ -22,7 +27,9 @@ impl Winding {
     }
 
     /// Both together.
-    pub fn plus(self, other: Winding) -> Winding {
+    pub fn plus(self, other: Winding) -> Winding
+        ensures { result ≡ together self other }
+    {
         Winding {
             exterior: self.exterior.wrapping_add(other.exterior),
             holes: self.holes.wrapping_add(other.holes),
@@ -30,7 +37,9 @@ impl Winding {
     }
 
     /// The same the other way round.
-    pub fn negated(self) -> Winding {
+    pub fn negated(self) -> Winding
+        ensures { result ≡ reversed self }
+    {
         Winding {
             exterior: self.exterior.wrapping_neg(),
             holes: self.holes.wrapping_neg(),
@@ -38,7 +47,9 @@ impl Winding {
     }
 
     /// Whether it is nothing.
-    pub fn is_none(self) -> bool {
+    pub fn is_none(self) -> bool
+        ensures { IsTrue result ↔ (self ≡ nothing) }
+    {
         self.exterior == 0 && self.holes == 0
     }
 }
@@ -61,12 +72,18 @@ pub struct Segment {
 impl Segment {
     /// Whether it isn't without effect.
     #[inline]
-    pub fn has_gain(&self) -> bool {
+    pub fn has_gain(&self) -> bool
+        ensures { IsTrue result ↔ (self.now.gain ≢ nothing) }
+    {
         !self.gain.is_none()
     }
 
     /// Adds the gain of another one if that has the same ends, and returns whether it has.
-    pub fn absorb(&mut self, other: &Segment) -> bool {
+    pub fn absorb(&mut self, other: &Segment) -> bool
+        ensures same { IsTrue result ↔ AreEqual self.old other.now }
+        ensures joined { IsTrue result → self.new ≡ joined self.old other.now }
+        ensures kept { IsFalse result → self.new ≡ self.old }
+    {
         let is_same = self.a == other.a && self.b == other.b;
         if is_same {
             self.gain = self.gain.plus(other.gain);
@@ -91,11 +108,16 @@ pub struct HalfEdge {
 
 /// What is sorted by the keys of its two ends.
 pub trait Keyed {
+    ghost keys_of: { Self → ℤ × ℤ };
+
     /// The keys of both, first the one by which it is sorted first.
-    fn keys(&self) -> (i64, i64);
+    fn keys(&self) -> (i64, i64)
+        ensures { result ≡ keys_of self.now };
 }
 
 impl Keyed for Segment {
+    ghost keys_of = { segment_keys };
+
     #[inline]
     fn keys(&self) -> (i64, i64) {
         (sweep_key(self.a), sweep_key(self.b))
@@ -103,6 +125,8 @@ impl Keyed for Segment {
 }
 
 impl Keyed for HalfEdge {
+    ghost keys_of = { half_edge_keys };
+
     #[inline]
     fn keys(&self) -> (i64, i64) {
         (sweep_key(self.from), sweep_key(self.to))

@@ -1,4 +1,5 @@
 //! Tables over the numbers of the old edges that others come of.
+ghost use Rattle.std.specs.Prelude.{◌≡◌, ◌+◌, ◌-◌, ◌%◌, ◌^◌};
 
 /// More numbers than so many times those that come of them aren't put into a table.
 const SPARSEST: usize = 4;
@@ -30,13 +31,18 @@ impl WitnessRange {
     }
 
     /// How many numbers there are.
-    pub fn count(&self) -> usize {
+    pub fn count(&self) -> usize
+        ensures { result ≡ self.now.count }
+    {
         self.count
     }
 
-    /// The place of a number among them. Of another one it is none of theirs.
+    /// The place of a number among them. Of another one it is none of theirs: below the least one the
+    /// places go on from 2^32 downwards.
     #[inline]
-    pub fn place(&self, witness: u32) -> usize {
+    pub fn place(&self, witness: u32) -> usize
+        ensures { result ≡ (witness + (2 ^ 32 - self.now.least)) % 2 ^ 32 }
+    {
         witness.wrapping_sub(self.least) as usize
     }
 }
