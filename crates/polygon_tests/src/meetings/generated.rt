@@ -6,7 +6,7 @@ use super::{WAYS, found_in};
 use crate::dice::Dice;
 use crate::rings::ring_at;
 use mvt_plane::{Count, Edge, Point, common};
-use mvt_sweep::are_proper;
+use mvt_sweep::{are_proper, self_intersection};
 use std::alloc::Global;
 use std::process::Abort;
 
@@ -76,10 +76,9 @@ fn thrown_vertex(dice: &mut Dice, step: i32, side: i32, reach: i32) -> (i32, i32
     (x, dice.throw().wrapping_add(1).wrapping_mul(side))
 }
 
-/// A ring with a lower side from left to right, and an upper one back.
-fn thrown_ring(rt: &impl Abort, alloc: Global, dice: &mut Dice) -> Vec<Point> {
+/// A ring with a lower side of so many steps from left to right, and an upper one back.
+fn thrown_ring(rt: &impl Abort, alloc: Global, dice: &mut Dice, steps: i32) -> Vec<Point> {
     let reach = if dice.throw() < 4 { 1 } else { 2 };
-    let steps = dice.throw().wrapping_mul(4).wrapping_add(12);
     let mut vertices = Vec::new(alloc);
     for step in 0..steps {
         vertices
@@ -100,7 +99,8 @@ fn meeting_rings(rt: &impl Abort, alloc: Global) -> u32 {
     let mut dice = Dice::new();
     let mut meeting = 0_u32;
     for _ring in 0..200 {
-        let rings = vec![in alloc; thrown_ring(rt, alloc, &mut dice)].expect(rt, "memory");
+        let steps = dice.throw().wrapping_mul(4).wrapping_add(12);
+        let rings = vec![in alloc; thrown_ring(rt, alloc, &mut dice, steps)].expect(rt, "memory");
         if !are_proper(&rings) {
             continue;
         }
@@ -120,4 +120,32 @@ fn meeting_rings(rt: &impl Abort, alloc: Global) -> u32 {
 fn generated_rings(rt: HostRuntime) {
     let meeting = meeting_rings(&rt, rt.alloc());
     assert!(rt; 20 < meeting && meeting < 180);
+}
+
+/// Whether `self_intersection` finds a meeting in a generated ring of so many steps there and back,
+/// after it was seen that it does so exactly where two edges meet. None where two neighbours are at
+/// one position.
+fn meets_in_ring(rt: &impl Abort, alloc: Global, dice: &mut Dice, steps: i32) -> Option<bool> {
+    let rings = vec![in alloc; thrown_ring(rt, alloc, dice, steps)].expect(rt, "memory");
+    if rings.len() != 1 || !are_proper(&rings) {
+        return None;
+    }
+    let found = self_intersection(alloc, &rings, &mut Count::new()).expect(rt, "memory");
+    assert!(rt; found.is_some() == meets_plainly(&rings[0]));
+    Some(found.is_some())
+}
+
+// Rings of 10 to 72 edges, of which up to 16 are checked in another way than more.
+#[test]
+fn generated_rings_of_each_size(rt: HostRuntime) {
+    let mut dice = Dice::new();
+    let (mut meeting, mut clear) = (0_u32, 0_u32);
+    for ring in 0..256_i32 {
+        match meets_in_ring(&rt, rt.alloc(), &mut dice, ring / 8 + 5) {
+            Some(true) => meeting = meeting.wrapping_add(1),
+            Some(false) => clear = clear.wrapping_add(1),
+            None => {}
+        }
+    }
+    assert!(rt; 20 < meeting && 20 < clear);
 }
