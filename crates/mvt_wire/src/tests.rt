@@ -1,4 +1,6 @@
-use crate::{Body, Fields, WireCause, WireCode, read_varint, text, unzigzag32, unzigzag64};
+use crate::{
+    Body, Fields, WireCause, WireCode, leading_varint, read_varint, text, unzigzag32, unzigzag64,
+};
 
 // 150 is the example of the Protocol Buffers documentation; the greatest number takes ten bytes.
 #[test]
@@ -17,6 +19,23 @@ fn varints(rt: HostRuntime) {
     assert!(rt; read_varint(more, 0) == Ok((34_359_738_368, 6)));
     let greatest = &[0xff, 0xff, 0xff, 0xff, 0xff, 0xff, 0xff, 0xff, 0xff, 0x01];
     assert!(rt; read_varint(greatest, 0) == Ok((u64::MAX, 10)));
+}
+
+// Powers of 2^7 of three to ten bytes, at the end of the bytes and with others after them.
+#[test]
+fn leading_varints(rt: HostRuntime) {
+    let zeros = [0x80; 20];
+    let mut bytes = [0xff; 20];
+    let mut value = 16_384_u64;
+    for last in 2..10 {
+        bytes[..last].copy_from_slice(&zeros[..last]);
+        bytes[last] = 0x01;
+        assert!(rt; leading_varint(&bytes[..last + 1], 0) == Some((value, last + 1)));
+        assert!(rt; leading_varint(&bytes, 0) == Some((value, last + 1)));
+        assert!(rt; leading_varint(&bytes[..last], 0).is_none());
+        value = value.wrapping_mul(128);
+    }
+    assert!(rt; leading_varint(&zeros, 0).is_none());
 }
 
 #[test]

@@ -56,7 +56,9 @@ fn middle_varint(bytes: &[u8], at: usize) -> Option<(u64, usize)>
     requires fourth { 128 ≤ slice_index bytes.now (at + 2) → at + 3 < length bytes.now }
     requires fifth { 128 ≤ slice_index bytes.now (at + 2) → 128 ≤ slice_index bytes.now (at + 3)
         → at + 4 < length bytes.now }
-    ensures { IfSome result (λ read. EncodesVarint bytes.now at read.1 read.0) }
+    ensures found { IfSome result (λ read. EncodesVarint bytes.now at read.1 read.0) }
+    ensures longer { IfNone result ((128 ≤ slice_index bytes.now (at + 2))
+        × (128 ≤ slice_index bytes.now (at + 3)) × (128 ≤ slice_index bytes.now (at + 4))) }
 {
     let two = u64::from(bytes[at] % 128) + u64::from(bytes[at + 1] % 128) * 128;
     let three = two + u64::from(bytes[at + 2] % 128) * 16_384;
@@ -72,6 +74,47 @@ fn middle_varint(bytes: &[u8], at: usize) -> Option<(u64, usize)>
         return Some((five, at + 5));
     }
     None
+}
+
+/// The same for one of six to eight bytes, as many ids of features have.
+#[inline(always)]
+fn wide_varint(bytes: &[u8], at: usize) -> Option<(u64, usize)>
+    requires long { (128 ≤ slice_index bytes.now at) × (128 ≤ slice_index bytes.now (at + 1)) }
+    requires longer { (128 ≤ slice_index bytes.now (at + 2))
+        × (128 ≤ slice_index bytes.now (at + 3)) × (128 ≤ slice_index bytes.now (at + 4)) }
+    requires there { at + 7 < length bytes.now }
+    ensures { IfSome result (λ read. EncodesVarint bytes.now at read.1 read.0) }
+{
+    let two = u64::from(bytes[at] % 128) + 128 * u64::from(bytes[at + 1] % 128);
+    let three = two + 16_384 * u64::from(bytes[at + 2] % 128);
+    let four = three + 2_097_152 * u64::from(bytes[at + 3] % 128);
+    let five = four + 268_435_456 * u64::from(bytes[at + 4] % 128);
+    let six = five + 34_359_738_368 * u64::from(bytes[at + 5] % 128);
+    if bytes[at + 5] < 128 {
+        return Some((six, at + 6));
+    }
+    let seven = six + 4_398_046_511_104 * u64::from(bytes[at + 6] % 128);
+    if bytes[at + 6] < 128 {
+        return Some((seven, at + 7));
+    }
+    let eight = seven + 562_949_953_421_312 * u64::from(bytes[at + 7] % 128);
+    if bytes[at + 7] < 128 {
+        return Some((eight, at + 8));
+    }
+    None
+}
+
+/// The same for one of three to eight bytes, where eight are left.
+#[inline(always)]
+fn eight_varint(bytes: &[u8], at: usize) -> Option<(u64, usize)>
+    requires long { (128 ≤ slice_index bytes.now at) × (128 ≤ slice_index bytes.now (at + 1)) }
+    requires there { at + 7 < length bytes.now }
+    ensures { IfSome result (λ read. EncodesVarint bytes.now at read.1 read.0) }
+{
+    match middle_varint(bytes, at) {
+        Some(read) => Some(read),
+        None => wide_varint(bytes, at),
+    }
 }
 
 /// The varint at an offset, of any size, and the offset after it; None where none is there.
@@ -159,11 +202,17 @@ pub fn leading_varint(bytes: &[u8], at: usize) -> Option<(u64, usize)>
 /// The same for one of more bytes.
 #[inline(never)]
 fn longer_leading(bytes: &[u8], at: usize) -> Option<(u64, usize)>
-    requires { at < length bytes.now }
+    requires there { at + 1 < length bytes.now }
+    requires long { (128 ≤ slice_index bytes.now at) × (128 ≤ slice_index bytes.now (at + 1)) }
     ensures found { IfSome result (λ read. EncodesVarint bytes.now at read.1 read.0) }
     ensures refused { IfNone result (EndsEarly (drop at bytes.now)
         ⊎ IsTooLong (drop at bytes.now)) }
 {
+    if bytes.len() - at >= 8 {
+        if let Some(read) = eight_varint(bytes, at) {
+            return Some(read);
+        }
+    }
     read_varint(bytes, at).ok()
 }
 
@@ -202,9 +251,15 @@ fn longer_varint(bytes: &[u8], at: usize) -> (u64, usize)
 #[cold]
 #[inline(never)]
 fn longest_varint(bytes: &[u8], at: usize) -> (u64, usize)
-    requires { (n next : ℕ) × EncodesVarint bytes.now at next n }
+    requires stands { (n next : ℕ) × EncodesVarint bytes.now at next n }
+    requires long { (128 ≤ slice_index bytes.now at) × (128 ≤ slice_index bytes.now (at + 1)) }
     ensures { EncodesVarint bytes.now at result.1 result.0 }
 {
+    if bytes.len() - at >= 8 {
+        if let Some(read) = eight_varint(bytes, at) {
+            return read;
+        }
+    }
     match long_varint(bytes, at) {
         Some(read) => read,
         None => unreachable!(),
