@@ -18,7 +18,7 @@ impl Model for Work {
 }
 
 impl Work {
-    ghost use Rattle.std.specs.Prelude.{◌≡◌, ◌≤◌, ◌+◌, true, false};
+    ghost use Rattle.std.specs.Prelude.{◌≡◌, ◌≤◌, ◌+◌, true, false, min};
 
     /// So much work.
     pub fn new(limit: u64) -> Work
@@ -52,7 +52,8 @@ impl Work {
 
     /// Leaves no more than this.
     pub fn lower(&mut self, left: u64)
-        ensures { self.new ≤ self.old }
+        ensures lowered { self.new ≡ min self.old left }
+        ensures no_more { self.new ≤ self.old }
     {
         self.left = self.left.min(left);
     }
