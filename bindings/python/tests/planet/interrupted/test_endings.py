@@ -99,6 +99,8 @@ def test_interrupts_wait() -> None:
     """Also where another thread is there that gets them: what must not be left half done comes to its end."""
     end, steps = threading.Event(), []
     other = threading.Thread(target=end.wait)
+    # (where the tests run in the background it may be ignored)
+    before = signal.signal(signal.SIGINT, signal.default_int_handler)
     other.start()
     try:
         with pytest.raises(KeyboardInterrupt):
@@ -110,6 +112,7 @@ def test_interrupts_wait() -> None:
             steps.append("not reached")
         assert steps == ["whole"] and signal.getsignal(signal.SIGINT) is signal.default_int_handler
     finally:
+        signal.signal(signal.SIGINT, before)
         end.set()
         other.join()
 
