@@ -231,50 +231,23 @@ const SLANTED: Coordinates = &[
 ];
 
 /// The same with the end of the fourth tooth moved across the third one.
-const SLANTED_ACROSS: Coordinates = &[
-    (0, 0),
-    (200, 200),
-    (198, 200),
-    (-2, 0),
-    (-4, 0),
-    (196, 200),
-    (194, 200),
-    (-6, 0),
-    (-8, 0),
-    (192, 200),
-    (190, 200),
-    (-10, 0),
-    (-12, 0),
-    (205, 200),
-    (186, 200),
-    (-14, 0),
-    (-16, 0),
-    (184, 200),
-    (182, 200),
-    (-18, 0),
-    (-20, 0),
-    (180, 200),
-    (178, 200),
-    (-22, 0),
-    (-24, 0),
-    (176, 200),
-    (174, 200),
-    (-26, 0),
-    (-28, 0),
-    (172, 200),
-    (170, 200),
-    (-30, 0),
-    (-32, -5),
-    (2, -5),
-];
+fn slanted_across(rt: &impl Abort, alloc: Global) -> Vec<(i32, i32)> {
+    let mut ring = Vec::with_capacity(alloc, SLANTED.len()).expect(rt, "memory");
+    for (number, vertex) in SLANTED.iter().enumerate() {
+        let moved = if number == 13 { (205, 200) } else { *vertex };
+        ring.push(moved).expect(rt, "memory");
+    }
+    ring
+}
 
 // All bounds of edges overlap.
 #[test]
 fn some_edges_in_the_bounds_of_each_other(rt: HostRuntime) {
     assert!(rt; found_in_ring(&rt, rt.alloc(), SLANTED).is_none());
-    assert!(rt; found_in_ring(&rt, rt.alloc(), SLANTED_ACROSS).is_some());
+    let across = slanted_across(&rt, rt.alloc());
+    assert!(rt; found_in_ring(&rt, rt.alloc(), &across).is_some());
     assert!(rt; agree(&rt, rt.alloc(), &[SLANTED], true));
-    assert!(rt; agree(&rt, rt.alloc(), &[SLANTED_ACROSS], false));
+    assert!(rt; agree(&rt, rt.alloc(), &[&across], false));
 }
 
 #[test]
