@@ -53,7 +53,8 @@ impl<L: EmbeddedCheck> EmbeddedScan<L> {
         }
     }
 
-    /// Passes the next field. Its payload lies in the bytes.
+    /// Passes the next field. Its payload lies in the bytes, of which there are more than messages in
+    /// which nothing was found.
     #[inline(always)]
     pub fn pass(&mut self, bytes: &[u8], field: &Field<'_>)
         requires inside { LiesIn bytes.now (entry_of field.now) }

@@ -1,5 +1,6 @@
-//! The laws of the wire encoding, as contracts of functions that do nothing. They speak of the
-//! definitions alone, so a reader of messages can use them.
+//! The laws of the wire encoding (Protocol Buffers encoding, "Base 128 Varints" and "Message
+//! Structure"), as contracts of functions that do nothing. They speak of the definitions alone, so a
+//! reader of messages can use them.
 
 ghost use Rattle.std.specs.Prelude.{◌≡◌, ℕ, ◌+◌, ◌-◌, ◌^◌, ◌<◌, ◌≤◌, ◌⊎◌, List, [], ◌∷◌, ◌++◌, length, take, drop, slice_index, Option, Some, None};
 ghost use Rattle.std.specs.List.{concat};
@@ -139,8 +140,7 @@ pub fn one_numbers_end()
         → NumbersEnd bytes from field_number second other → (first ≡ second) × (ending ≡ other) }
 {}
 
-/// The numbers end at the fault of least place, of all that could end them: all others are later
-/// it.
+/// The numbers end at the fault of least place, of all that could end them: all others are later.
 pub fn numbers_end_at_least_fault()
     ensures fault { (bytes : List ℕ) (from field_number : ℕ) (numbers : List ℕ) (cause : WireCause) →
         NumbersEnd bytes from field_number numbers (Some cause)

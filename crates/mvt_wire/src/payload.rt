@@ -1,4 +1,4 @@
-//! The payloads of fields whose wire type is known.
+//! The payloads of fields whose wire type is known (Protocol Buffers encoding, "Message Structure").
 ghost use Rattle.std.specs.Prelude.{◌≡◌, ℕ, ◌<◌, ◌^◌, List, ◌==◌, not, option_map, IsUtf8};
 ghost use Rattle.std.specs.Int.{cast_signed, w64};
 ghost use Rattle.mvt_wire.specs.Field.{content_of, delimited, eight_bytes, four_bytes, wire_type_of};

@@ -38,6 +38,19 @@ fn leading_varints(rt: HostRuntime) {
     assert!(rt; leading_varint(&zeros, 0).is_none());
 }
 
+// The greatest number, as -1 has it, and one more bit: with bytes after it or without.
+#[test]
+fn greatest_varint(rt: HostRuntime) {
+    let mut bytes = [0xff; 20];
+    bytes[9] = 0x01;
+    assert!(rt; leading_varint(&bytes, 0) == Some((u64::MAX, 10)));
+    assert!(rt; leading_varint(&bytes[..10], 0) == Some((u64::MAX, 10)));
+    assert!(rt; leading_varint(&bytes[..9], 0).is_none());
+    bytes[9] = 0x03;
+    assert!(rt; leading_varint(&bytes, 0).is_none());
+    assert!(rt; leading_varint(&bytes[..10], 0).is_none());
+}
+
 #[test]
 fn no_varints(rt: HostRuntime) {
     let long = &[0x82, 0x80, 0x80, 0x80, 0x80, 0x80, 0x80, 0x80, 0x80, 0x02];

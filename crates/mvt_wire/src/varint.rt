@@ -76,13 +76,13 @@ fn middle_varint(bytes: &[u8], at: usize) -> Option<(u64, usize)>
     None
 }
 
-/// The same for one of six to eight bytes, as many ids of features have.
+/// The same for one of six to ten bytes, as many ids of features have.
 #[inline(always)]
 fn wide_varint(bytes: &[u8], at: usize) -> Option<(u64, usize)>
     requires long { (128 ≤ slice_index bytes.now at) × (128 ≤ slice_index bytes.now (at + 1)) }
     requires longer { (128 ≤ slice_index bytes.now (at + 2))
         × (128 ≤ slice_index bytes.now (at + 3)) × (128 ≤ slice_index bytes.now (at + 4)) }
-    requires there { at + 7 < length bytes.now }
+    requires there { at + 9 < length bytes.now }
     ensures { IfSome result (λ read. EncodesVarint bytes.now at read.1 read.0) }
 {
     let two = u64::from(bytes[at] % 128) + 128 * u64::from(bytes[at + 1] % 128);
@@ -101,14 +101,23 @@ fn wide_varint(bytes: &[u8], at: usize) -> Option<(u64, usize)>
     if bytes[at + 7] < 128 {
         return Some((eight, at + 8));
     }
-    None
+    let nine = eight + 72_057_594_037_927_936 * u64::from(bytes[at + 8] % 128);
+    if bytes[at + 8] < 128 {
+        return Some((nine, at + 9));
+    }
+    // (one bit is left below 2^64)
+    if bytes[at + 9] > 1 {
+        return None;
+    }
+    let ten = nine + 9_223_372_036_854_775_808 * u64::from(bytes[at + 9]);
+    Some((ten, at + 10))
 }
 
-/// The same for one of three to eight bytes, where eight are left.
+/// The same for one of three to ten bytes, where ten are left.
 #[inline(always)]
-fn eight_varint(bytes: &[u8], at: usize) -> Option<(u64, usize)>
+fn ten_varint(bytes: &[u8], at: usize) -> Option<(u64, usize)>
     requires long { (128 ≤ slice_index bytes.now at) × (128 ≤ slice_index bytes.now (at + 1)) }
-    requires there { at + 7 < length bytes.now }
+    requires there { at + 9 < length bytes.now }
     ensures { IfSome result (λ read. EncodesVarint bytes.now at read.1 read.0) }
 {
     match middle_varint(bytes, at) {
@@ -208,8 +217,8 @@ fn longer_leading(bytes: &[u8], at: usize) -> Option<(u64, usize)>
     ensures refused { IfNone result (EndsEarly (drop at bytes.now)
         ⊎ IsTooLong (drop at bytes.now)) }
 {
-    if bytes.len() - at >= 8 {
-        if let Some(read) = eight_varint(bytes, at) {
+    if bytes.len() - at >= 10 {
+        if let Some(read) = ten_varint(bytes, at) {
             return Some(read);
         }
     }
@@ -255,8 +264,8 @@ fn longest_varint(bytes: &[u8], at: usize) -> (u64, usize)
     requires long { (128 ≤ slice_index bytes.now at) × (128 ≤ slice_index bytes.now (at + 1)) }
     ensures { EncodesVarint bytes.now at result.1 result.0 }
 {
-    if bytes.len() - at >= 8 {
-        if let Some(read) = eight_varint(bytes, at) {
+    if bytes.len() - at >= 10 {
+        if let Some(read) = ten_varint(bytes, at) {
             return read;
         }
     }

@@ -1,4 +1,5 @@
-//! Fields whose key has one byte, as nearly all have.
+//! Fields whose key has one byte, as nearly all have (Protocol Buffers encoding, "Message
+//! Structure").
 ghost use Rattle.std.specs.Prelude.{◌≡◌, ◌↔◌, ◌+◌, ◌%◌, ◌<◌, ◌≤◌, ◌⊎◌, length, slice_index, IfSome, IsSome};
 ghost use Rattle.mvt_wire.specs.Varint.{EncodesVarint};
 ghost use Rattle.mvt_wire.specs.Walk.{IsNextField};

@@ -1,4 +1,5 @@
-//! The fields of a message that is known to be whole. What is known by that is not tested again.
+//! The fields of a message that is known to be whole (Protocol Buffers encoding, "Message
+//! Structure"). What is known by that is not tested again.
 ghost use Rattle.std.specs.Prelude.{◌≡◌, ◌↔◌, ◌/◌, ◌<◌, ℕ, length, slice_index, IfNone, IfSome, IsSome};
 ghost use Rattle.mvt_wire.specs.Field.{Content, Entry, FieldDefect, IsField, IsPayload, content_of, entry_of, wire_type_of};
 ghost use Rattle.mvt_wire.specs.Walk.{IsOver, GivesField};
