@@ -37,7 +37,7 @@ impl PolygonCall {
 
     /// Makes the call on the rings of the numbers of a text, and prints its answer.
     pub(crate) fn run<R: Print + AllocGlobal>(self, rt: &R, bytes: &[u8]) -> Result<(), Stop> {
-        let mut room = [0u32; 64];
+        let mut room = [0u32; 128];
         let numbers = numbers(bytes, &mut room)?;
         let mut buffer = RingBuffer::new(rt.alloc());
         match buffer.draw(rt.alloc(), ListedNumbers::new(numbers)) {

@@ -47,7 +47,8 @@ impl Count {
         self.tests
     }
 
-    /// How often an edge was compared with a position, as to find a place in the status.
+    /// How often an edge was held against a position, as to find a place in the status, or against
+    /// up to four other edges at once.
     pub fn probes(&self) -> u64
         ensures { result ≡ self.now.probes }
     {
@@ -81,7 +82,7 @@ impl Count {
         self.probes = self.probes.saturating_add(1);
     }
 
-    /// Counts so many comparisons of an edge with a position or with another edge.
+    /// Counts so many comparisons of an edge with a position, or with up to four other edges at once.
     pub fn tick_probes(&mut self, many: u64)
         ensures tests { self.new.tests ≡ self.old.tests }
         ensures probes { self.new.probes ≡ min (self.old.probes + many) (2 ^ 64 - 1) }

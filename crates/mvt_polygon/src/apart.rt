@@ -46,7 +46,8 @@ pub fn check_apart(
 }
 
 /// The first of the other polygons that the position is inside. Of two polygons of a feature each
-/// has an exterior of its own, so they are told apart by their ordinals. It takes no memory.
+/// has an exterior of its own, so they are told apart by their ordinals. `groups` and `polygon` are
+/// as in `check_apart`. It takes no memory.
 pub fn polygon_around(
     rings: &[Vec<Point>],
     groups: &[(usize, usize)],

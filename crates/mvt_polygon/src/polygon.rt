@@ -29,14 +29,14 @@ pub enum PolygonFault {
 /// are the holes, up to the ring `after` the last one; the answer names them by their ordinals in the
 /// feature. Each ring is to have three vertices or more, none at the position of the next one. One
 /// sweep decides both: where its line comes to a ring, the edges below say which rings are around it.
-/// A polygon of one ring has no holes, so nothing is noted of it; if it has at most 16 edges, all
+/// A polygon of one ring has no holes, so nothing is noted of it; if it has at most 40 edges, all
 /// pairs are checked, and it is swept over only where more than three pairs for each edge need a test.
 /// So of n vertices it makes at most 3 * n tests of two edges, n * (2 * bits(n) + 10) probes, which
-/// compare an edge with a vertex or with another edge, and n * 20 * bits(n) visits of the status's
-/// nodes, as `count` has it, also where rings are many. Of t turn vertices, as `find_meeting` has
-/// them, it makes at most 9 * n + t * 2 * bits(n) probes and t * 12 * bits(n) visits. It makes a test
-/// at least where it finds a meeting, and else n probes. The only error is that memory was refused, or
-/// that there are 2^32 vertices or more.
+/// hold an edge against a vertex or up to four other edges, and n * 20 * bits(n) visits of the
+/// status's nodes, as `count` has it, also where rings are many. Of t turn vertices, as
+/// `find_meeting` has them, it makes at most 9 * n + t * 2 * bits(n) probes and t * 12 * bits(n)
+/// visits. It makes a test at least where it finds a meeting, and else n probes. The only error is
+/// that memory was refused, or that there are 2^32 vertices or more.
 pub fn check_polygon(
     alloc: Global,
     rings: &[Vec<Point>],

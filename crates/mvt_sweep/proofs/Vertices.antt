@@ -1,4 +1,5 @@
 -- Rings, vertices and edges by their numbers, vertices in order, and bounds.
+pub mod ConvexFours
 pub mod EdgeNumbers
 pub mod FarEdges
 pub mod KeyParts
@@ -10,6 +11,7 @@ pub mod ProperRings
 pub mod RingReads
 pub mod SegmentEnds
 pub mod SharedVertices
+pub mod SideLanes
 pub mod TestCounts
 pub mod TurnCounts
 pub mod VertexNumbers

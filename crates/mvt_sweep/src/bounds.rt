@@ -6,7 +6,8 @@ ghost use Rattle.mvt_sweep.specs.Rings.{rings_of, AreProperRings};
 
 use mvt_plane::{Edge, Point};
 
-/// The least and the greatest coordinates of an edge, of a ring, or of several.
+/// The least and the greatest coordinates of an edge, of a ring, or of several. (Contracts say no
+/// more than that what they are of is within.)
 #[derive(Clone, Copy, Default)]
 pub struct Bounds {
     /// The least x.
@@ -50,7 +51,7 @@ impl Bounds {
         Bounds::at(ring[0]).with_all(ring)
     }
 
-    /// Those of all rings of a polygon.
+    /// Those of all rings of a polygon, from the ring `exterior` up to the ring `after` its last one.
     pub fn of_polygon(rings: &[Vec<Point>], exterior: usize, after: usize) -> Bounds
         requires drawn { AreProperRings (rings_of rings.now) }
         requires further { exterior < after }
@@ -91,7 +92,7 @@ impl Bounds {
         }
     }
 
-    /// Whether no position is within both.
+    /// Whether no position is known to be within both: true only where none is.
     #[inline]
     pub fn are_apart(&self, other: &Bounds) -> bool
         ensures { IsTrue result → AreBoundsApart self.now other.now }

@@ -3,6 +3,8 @@
 #![tactic(auto)]
 
 mod bounds;
+mod convex;
+mod edge_bounds;
 mod meeting;
 mod pairs;
 mod proper;

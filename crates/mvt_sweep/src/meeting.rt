@@ -1,5 +1,5 @@
 //! Edges that meet wrongly.
-ghost use Rattle.std.specs.Prelude.{◌≡◌, ◌*◌, ◌<◌, IfOk, IfNone, IfSome, [], length};
+ghost use Rattle.std.specs.Prelude.{◌≡◌, ◌*◌, ◌<◌, ◌≤◌, IfOk, IfNone, IfSome, [], length};
 ghost use Rattle.mvt_plane.specs.Counted.{ticked};
 ghost use Rattle.mvt_sweep.specs.Work.{AddsWork, IsCounted, vertex_count};
 ghost use Rattle.mvt_sweep.specs.SweepWork.{AddsSweep, AddsTurns};
@@ -8,6 +8,7 @@ ghost use Rattle.mvt_sweep.specs.Calls.Sweep.{Tested};
 ghost use Rattle.mvt_sweep.specs.Meeting.{IsMeetingOf, NoMeeting};
 ghost use Rattle.mvt_sweep.specs.Rings.{rings_of, AreProperRings};
 
+use crate::convex::are_convex_four;
 use crate::pairs::{Pairs, find_pairs, meeting_among};
 use crate::sweep::{
     FEW_VERTICES, FewVertices, NoNotes, Pair, SweepVertices, Swept, list_few, list_of, sweep_over,
@@ -111,8 +112,9 @@ fn meeting_by_sweep<S: Status>(
 }
 
 /// A self-intersection of the only ring: a meeting of two of its edges, as `find_meeting` answers.
-/// Of few edges all pairs are looked at, with no memory and no sweep unless too many of them need a
-/// test. So probes are up to 9 * n in place of n, beside those at turn vertices.
+/// Of up to 40 edges all pairs are looked at, with no memory and no sweep unless too many of them
+/// need a test; four that turn one way at each vertex need none. So probes are up to 9 * n in place
+/// of n, beside those at turn vertices.
 pub fn self_intersection(
     alloc: Global,
     rings: &[Vec<Point>],
@@ -133,9 +135,35 @@ pub fn self_intersection(
     let mut list = FewVertices::new();
     list_few(rings, &mut list);
     let vertices = SweepVertices::new(&list);
+    if are_convex_four(&vertices) {
+        count.tick_probes(4);
+        return Ok(None);
+    }
+    meeting_of_few(alloc, rings, &vertices, count)
+}
+
+/// The same of few vertices by pairs of their edges, or else by a sweep. (By itself, so that rings for
+/// which neither is needed don't pay for its lists.)
+#[inline(never)]
+fn meeting_of_few(
+    alloc: Global,
+    rings: &[Vec<Point>],
+    vertices: &SweepVertices,
+    count: &mut Count,
+) -> Result<Option<Meeting>, AllocError>
+    requires proper { AreProperRings (rings_of rings.now) }
+    requires vertices { AreSweepVertices (rings_of rings.now) vertices.now }
+    requires few { sweep_count vertices.now ≤ 40 }
+    ensures none { IfOk result (λ found. IfNone found (NoMeeting (rings_of rings.now))) }
+    ensures some { IfOk result (λ found. IfSome found (IsMeetingOf (rings_of rings.now))) }
+    ensures counted { let rings = rings_of rings.now in
+        AddsTurns (9 * vertex_count rings) rings count.old count.new }
+    ensures least { IfOk result (IsCounted (vertex_count (rings_of rings.now)) count.old
+        count.new) }
+{
     let mut pairs = Pairs::new();
-    if find_pairs(&vertices, &mut pairs, count) {
-        return Ok(meeting_among(rings, &vertices, &pairs, count));
+    if find_pairs(vertices, &mut pairs, count) {
+        return Ok(meeting_among(rings, vertices, &pairs, count));
     }
     find_meeting(alloc, rings, count)
 }

@@ -61,23 +61,27 @@ fn meetings(rt: HostRuntime) {
     }
 }
 
-/// Rings of few edges, and how many pairs of edges need a test up to the first that meets. Of a
-/// square none does: edges that follow each other make a turn, and others have boxes that are
-/// apart. Of the other two one does, which crosses or goes back.
-const FEW_EDGES: [(Coordinates, u64, u64); 3] = [
-    (SQUARE, 6, 0),
-    (&[(0, 8), (10, 0), (10, 10), (0, 0)], 6, 1),
+/// Rings of few edges, how many probes they take and how many pairs of edges need a test up to the
+/// first that meets. A square takes a probe for each turn and no test, also on its corner, where the
+/// boxes of opposite edges touch. Else the edge of the number n takes a probe for each four before
+/// it, and one for the others. Of an L none needs a test: edges that follow each other make a turn,
+/// and others have boxes that are apart. Of the other two one does, which crosses or goes back.
+const FEW_EDGES: [(Coordinates, u64, u64); 5] = [
+    (SQUARE, 4, 0),
+    (&[(5, 0), (10, 5), (5, 10), (0, 5)], 4, 0),
+    (&[(0, 0), (9, 0), (9, 4), (4, 4), (4, 9), (0, 9)], 8, 0),
+    (&[(0, 8), (10, 0), (10, 10), (0, 0)], 4, 1),
     (&[(0, 0), (10, 0), (5, 0)], 3, 1),
 ];
 
 // All pairs of edges are checked, and no status is needed.
 #[test]
 fn all_pairs_of_few_edges(rt: HostRuntime) {
-    for (ring, pairs, tests) in FEW_EDGES {
+    for (ring, probes, tests) in FEW_EDGES {
         let rings = rings_at(&rt, rt.alloc(), &[ring]);
         let (fault, count) = fault_in(&rt, rt.alloc(), &rings);
         assert!(rt; fault.is_some() == (tests == 1));
-        assert!(rt; (count.tests(), count.probes(), count.visits()) == (tests, pairs, 0));
+        assert!(rt; (count.tests(), count.probes(), count.visits()) == (tests, probes, 0));
     }
 }
 

@@ -36,8 +36,9 @@ pub fn check_nesting_once(rings: &[Vec<Point>], count: &mut Count) -> Option<Nes
 }
 
 /// Why the first vertex of a hole isn't where it should be: it isn't inside the exterior, or else
-/// it is inside another hole, of which the first is returned. Ticks a probe for each edge of the
-/// exterior at least, and one for each edge of the rings at most. It takes no memory.
+/// it is inside another hole, of which the first is returned. `position` is that of the vertex, and
+/// `ring` the ordinal of the hole. Ticks a probe for each edge of the exterior at least, and one for
+/// each edge of the rings at most. It takes no memory.
 pub fn fault_of_first_vertex(
     rings: &[Vec<Point>],
     ring: usize,

@@ -1,13 +1,10 @@
 -- What is counted at least.
-use Rattle.std.proofs.Common.{add-one, ◌≡◌, ℕ, zero, suc, ◌+◌, ◌*◌, ◌≤◌, List, [], ◌∷◌, Option, Some, None, IfSome, refl, sym, subst, arith}
+use Rattle.std.proofs.Common.{add-one, ap, ◌≡◌, ℕ, zero, suc, ◌+◌, ◌*◌, ◌/◌, ◌≤◌, Option, Some, None, IfSome, sym, subst, arith}
 use Rattle.std.proofs.Math.Nat.{mul-le-mul_right}
 use Rattle.mvt_plane.specs.Counted.{Counted, ticked}
-use Rattle.mvt_plane.specs.Position.{Position}
-use Rattle.mvt_sweep.specs.Work.{IsCounted, vertex_count}
-use Rattle.mvt_sweep.specs.Calls.Pairs.{pairs_of}
-use Rattle.mvt_sweep.specs.Rings.{AreProperRings}
+use Rattle.mvt_sweep.specs.Work.{IsCounted}
+use Rattle.mvt_sweep.specs.Calls.Pairs.{probes_of}
 use Rattle.mvt_sweep.specs.Calls.Steps.{after_an_end, met_by}
-use Rattle.mvt_sweep.proofs.Vertices.VertexNumbers.{count_cons}
 use Rattle.mvt_sweep.specs.declared.sweep.vertices.Pair.{Pair}
 use Rattle.mvt_sweep.specs.declared.sweep.step.Step.{Step}
 use Rattle.mvt_sweep.specs.declared.sweep.step.Step.TheVariants.{Meets}
@@ -38,27 +35,23 @@ tested_step before after step pair is counted = subst (λ (step : Step). IsCount
 
 -- Pairs
 
--- twice as many pairs, with an edge each, are as many as the square
-pub twice_pairs : (edges : ℕ) → 2 * pairs_of edges + edges ≡ edges * edges
-unfolding pairs_of
-twice_pairs zero = omega arith
-twice_pairs (suc edges) = omega (arith, twice_pairs edges)
+-- eight times as many probes are less than the square and seven times the edges
+eight_probes : (edges : ℕ) → 8 * probes_of edges ≤ edges * (edges + 7)
+unfolding probes_of
+eight_probes zero = omega arith
+eight_probes (suc edges) = omega (arith, eight_probes edges)
 
--- of at most 16 edges there are at most eight for each
-pub few_pairs : (edges : ℕ) → edges ≤ 16 → pairs_of edges ≤ 8 * edges
-few_pairs edges few = omega (arith, twice_pairs edges, mul-le-mul_right edges few)
+-- of at most 40 edges there are at most eight for each
+pub few_probes : (edges : ℕ) → edges ≤ 40 → probes_of edges ≤ 8 * edges
+few_probes edges few = omega (arith, eight_probes edges, mul-le-mul_right edges few)
 
--- fewer edges have fewer pairs
-pub pairs_of_more : (edges : ℕ) → pairs_of edges + edges ≡ pairs_of (edges + 1)
-unfolding pairs_of
-pairs_of_more edges = rw add-one refl
+-- one edge more
+pub probes_of_more : (edges : ℕ) → probes_of edges + (edges / 4 + 1) ≡ probes_of (edges + 1)
+unfolding probes_of
+probes_of_more edges = ap probes_of (sym (add-one edges))
 
--- of three edges or more there is a pair for each edge
-pub pairs_enough : (edges : ℕ) → 3 ≤ edges → edges ≤ pairs_of edges
-pairs_enough edges several = omega (arith, twice_pairs edges, mul-le-mul_right edges several)
-
--- proper rings have a pair for each vertex
-pub pairs_of_rings : (rings : List (List Position)) → AreProperRings rings → vertex_count rings ≤ pairs_of (vertex_count rings)
-unfolding pairs_of
-pairs_of_rings [] proper = omega arith
-pairs_of_rings (ring ∷ rest) proper = pairs_enough (vertex_count (ring ∷ rest)) (omega (arith, count_cons ring rest, proper.several 0 ring refl))
+-- there is a probe for each edge
+pub probes_enough : (edges : ℕ) → edges ≤ probes_of edges
+unfolding probes_of
+probes_enough zero = omega arith
+probes_enough (suc edges) = omega (arith, probes_enough edges)

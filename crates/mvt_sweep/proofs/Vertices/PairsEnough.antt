@@ -1,5 +1,5 @@
 -- Pairs of edges that need no test, and those that are left.
-use Rattle.std.proofs.Common.{◌≡◌, ◌≢◌, ◌⊎◌, inl, inr, ℕ, Some, false, of_z, ◌==◌, ◌+◌, ◌*◌, ◌<◌, All, List, [], ◌∷◌, ◌++◌, length, slice_get, ℤ, pos, ◌*ℤ◌, ◌<ℤ◌, ◌≤ℤ◌, refl, sym, ◌∙◌, ap, subst, arith}
+use Rattle.std.proofs.Common.{◌≡◌, ◌≢◌, ◌⊎◌, inl, inr, ℕ, Some, false, of_z, ◌==◌, ◌+◌, ◌*◌, ◌<◌, ◌≤◌, All, List, [], ◌∷◌, ◌++◌, length, ℤ, pos, ◌*ℤ◌, ◌<ℤ◌, ◌≤ℤ◌, refl, sym, ◌∙◌, ap, subst, arith}
 use Rattle.std.specs.Int.{w128}
 use Rattle.std.proofs.lemmas.Bool.{cases_order}
 use Rattle.std.proofs.lemmas.List.{length_push}
@@ -16,10 +16,11 @@ use Rattle.mvt_plane.proofs.Points.RationalPoints.{begin_lies_on, end_lies_on, t
 use Rattle.mvt_sweep.specs.Calls.SweepVertices.{NoneWrong, sweep_count, edge_at, next_at, plan_of, position_at, previous_at, shared_at, turn_at}
 use Rattle.mvt_sweep.specs.Calls.Pairs.{AreEdgeBounds, AreHeightsApart, below, above, AreEnough, AreEnoughForAll, AreLess, IsPair, AreEndsWithin}
 use Rattle.mvt_sweep.specs.Bounds.{AreBoundsApart}
+use Rattle.mvt_sweep.specs.Calls.EdgeBounds.{bounds_at, bounds_count}
 use Rattle.mvt_sweep.specs.Calls.Sweep.{Tested}
 use Rattle.mvt_sweep.specs.declared.bounds.Bounds.{Bounds}
+use Rattle.mvt_sweep.specs.declared.edge_bounds.EdgeBounds.{EdgeBounds}
 use Rattle.mvt_sweep.specs.declared.sweep.vertices.SweepVertices.{SweepVertices}
-use Rattle.mvt_sweep.proofs.Chains.ChainParts.{in_longer}
 use Rattle.mvt_sweep.proofs.Vertices.FarEdges.{no_common_point}
 use Rattle.mvt_sweep.proofs.Vertices.VertexPlans.{tested_by_name, tested_either_way, when_ahead, when_back}
 
@@ -49,22 +50,31 @@ turns_by_test found turn is test flat =
     cc
 
 -- an edge and the next one that make a turn need no test
-pub next_apart : (vertices : SweepVertices) (first second : ℕ) (turn : ℤ) → next_at vertices first ≡ second
-    → turn ≡ orientation (edge_at vertices first).a (edge_at vertices first).b (edge_at vertices second).b → (of_z w128 turn == 0) ≡ false → Tested (plan_of vertices) first second
-next_apart vertices first second turn next is test =
+pub ahead_apart : (vertices : SweepVertices) (first second : ℕ) → next_at vertices first ≡ second
+    → ¬ (orientation (edge_at vertices first).a (edge_at vertices first).b (edge_at vertices second).b ≡ pos 0) → Tested (plan_of vertices) first second
+ahead_apart vertices first second next turns =
     let at = position_at vertices in
     tested_by_name vertices first second (none refl (λ point common. common.apart (at second) (when_ahead vertices first second next) (subst (λ (n : ℕ). IsAt point (at n)) next
-    (meet_at_turn (at first) (at (next_at vertices first)) (at (next_at vertices second)) point (turns_by_test turn _ is test) common.on_first
+    (meet_at_turn (at first) (at (next_at vertices first)) (at (next_at vertices second)) point turns common.on_first
     (subst (λ (n : ℕ). LiesOn point (between (at n) (at (next_at vertices second)))) (sym next) common.on_second)))))
 
 -- nor do an edge and the one before it
-pub previous_apart : (vertices : SweepVertices) (first second : ℕ) (turn : ℤ) → next_at vertices first ≢ second → next_at vertices second ≡ first
-    → turn ≡ orientation (edge_at vertices second).a (edge_at vertices second).b (edge_at vertices first).b → (of_z w128 turn == 0) ≡ false → Tested (plan_of vertices) first second
-previous_apart vertices first second turn not next is test =
+pub back_apart : (vertices : SweepVertices) (first second : ℕ) → next_at vertices first ≢ second → next_at vertices second ≡ first
+    → ¬ (orientation (edge_at vertices second).a (edge_at vertices second).b (edge_at vertices first).b ≡ pos 0) → Tested (plan_of vertices) first second
+back_apart vertices first second not next turns =
     let at = position_at vertices in
     tested_by_name vertices first second (none refl (λ point common. common.apart (at first) (when_back vertices first second not next) (subst (λ (n : ℕ). IsAt point (at n)) next
-    (meet_at_turn (at second) (at (next_at vertices second)) (at (next_at vertices first)) point (turns_by_test turn _ is test) common.on_second
+    (meet_at_turn (at second) (at (next_at vertices second)) (at (next_at vertices first)) point turns common.on_second
     (subst (λ (n : ℕ). LiesOn point (between (at n) (at (next_at vertices first)))) (sym next) common.on_first)))))
+
+-- the same where the turn was tested
+pub next_apart : (vertices : SweepVertices) (first second : ℕ) (turn : ℤ) → next_at vertices first ≡ second
+    → turn ≡ orientation (edge_at vertices first).a (edge_at vertices first).b (edge_at vertices second).b → (of_z w128 turn == 0) ≡ false → Tested (plan_of vertices) first second
+next_apart vertices first second turn next is test = ahead_apart vertices first second next (turns_by_test turn _ is test)
+
+pub previous_apart : (vertices : SweepVertices) (first second : ℕ) (turn : ℤ) → next_at vertices first ≢ second → next_at vertices second ≡ first
+    → turn ≡ orientation (edge_at vertices second).a (edge_at vertices second).b (edge_at vertices first).b → (of_z w128 turn == 0) ≡ false → Tested (plan_of vertices) first second
+previous_apart vertices first second turn not next is test = back_apart vertices first second not next (turns_by_test turn _ is test)
 
 -- where a ring turns, its two edges meet in the vertex alone
 meet_at_vertex : (here before following : Position) (point : RationalPoint) → ¬ (orientation here before following ≡ pos 0) → LiesOn point (between before here) → LiesOn point (between here following)
@@ -126,13 +136,15 @@ no_test_either_way vertices first second apart =
 -- Bounds
 
 -- the bounds of one edge more
-pub bounds_more : (vertices : SweepVertices) (many : ℕ) (before items : List Bounds) (its : Bounds) → items ≡ before ++ its ∷ [] → AreEdgeBounds vertices many before
-    → AreEndsWithin its (edge_at vertices many) → AreEdgeBounds vertices (many + 1) items
-bounds_more vertices many before items its pushed are ends = record {
-  count = omega (arith, ap length pushed, are.count, length_push before its);
-  each = λ number it there. elim (in_longer before its number it (ap (λ (list : List Bounds). slice_get list number) (sym pushed) ∙ there)) [
-    | inl earlier ↦ are.each number it earlier
-    | inr last ↦ subst (λ (n : ℕ). AreEndsWithin it (edge_at vertices n)) (sym (last.0 ∙ are.count)) (subst (λ (b : Bounds). AreEndsWithin b (edge_at vertices many)) last.1 ends)
+pub bounds_more : (vertices : SweepVertices) (many : ℕ) (before after : EdgeBounds) (its : Bounds) → bounds_count after ≡ bounds_count before + 1 → bounds_at after (bounds_count before) ≡ its
+    → ((number : ℕ) → number < bounds_count before → bounds_at after number ≡ bounds_at before number) → AreEdgeBounds vertices many before → AreEndsWithin its (edge_at vertices many)
+    → AreEdgeBounds vertices (many + 1) after
+bounds_more vertices many before after its count last others are ends = record {
+  count = omega (arith, count, are.count);
+  each = λ number within. elim (cases_order number many) [
+    | inl same ↦ rw same (subst (λ (bounds : Bounds). AreEndsWithin bounds (edge_at vertices many)) (sym (ap (bounds_at after) (sym are.count) ∙ last)) ends)
+    | inr (inl fewer) ↦ subst (λ (bounds : Bounds). AreEndsWithin bounds (edge_at vertices number)) (sym (others number (omega (arith, fewer, are.count)))) (are.each number fewer)
+    | inr (inr more) ↦ absurd (omega (arith, within, more))
   ];
 }
 
@@ -181,6 +193,18 @@ pub enough_with_clear : (vertices : SweepVertices) (pairs : List (ℕ × ℕ)) (
     → AreEnough vertices pairs number (last + 1)
 enough_with_clear vertices pairs number last enough clear =
     record { few = enough.few; each = enough.each; rest = λ tested. one_more vertices number last clear (enough.rest tested) }
+
+-- nor does it with the next four
+pub enough_with_four : (vertices : SweepVertices) (pairs : List (ℕ × ℕ)) (number last : ℕ) → AreEnough vertices pairs number last
+    → ((other : ℕ) → last ≤ other → other < last + 4 → Tested (plan_of vertices) other number) → AreEnough vertices pairs number (last + 4)
+enough_with_four vertices pairs number last enough clear =
+    let to = λ (other : ℕ). AreEnough vertices pairs number other in
+    let one = enough_with_clear vertices pairs number last enough (clear last (omega arith) (omega arith)) in
+    let two = enough_with_clear vertices pairs number (last + 1) one (clear (last + 1) (omega arith) (omega arith)) in
+    let three = enough_with_clear vertices pairs number (last + 1 + 1) two (clear (last + 1 + 1) (omega arith) (omega arith)) in
+    let four = enough_with_clear vertices pairs number (last + 1 + 1 + 1) three (clear (last + 1 + 1 + 1) (omega arith) (omega arith)) in
+    let end : last + 1 + 1 + 1 + 1 ≡ last + 4 = omega arith in
+    subst to end four
 
 -- or it is to be tested
 pub enough_with_pair : (vertices : SweepVertices) (pairs : List (ℕ × ℕ)) (number last : ℕ) → AreEnough vertices pairs number last → last < number → number < sweep_count vertices

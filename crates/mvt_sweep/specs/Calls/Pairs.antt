@@ -1,16 +1,18 @@
 -- Pairs of edges that are to be tested, in place of all that there are.
-use Rattle.std.specs.Prelude.{◌≡◌, ◌⊎◌, ℕ, zero, suc, ◌+◌, ◌*◌, ◌<◌, ◌≤◌, All, List, length, slice_get, Some, ℤ, ◌<ℤ◌}
+use Rattle.std.specs.Prelude.{◌≡◌, ◌⊎◌, ℕ, zero, suc, ◌+◌, ◌*◌, ◌/◌, ◌<◌, ◌≤◌, All, List, length, ℤ, ◌<ℤ◌}
 use Rattle.mvt_plane.specs.declared.geometry.edge.Edge.{Edge}
 use Rattle.mvt_sweep.specs.Calls.SweepVertices.{sweep_count, edge_at, plan_of}
 use Rattle.mvt_sweep.specs.Calls.Sweep.{Tested}
+use Rattle.mvt_sweep.specs.Calls.EdgeBounds.{bounds_count, bounds_at}
 use Rattle.mvt_sweep.specs.declared.bounds.Bounds.{Bounds}
+use Rattle.mvt_sweep.specs.declared.edge_bounds.EdgeBounds.{EdgeBounds}
 use Rattle.mvt_sweep.specs.declared.sweep.vertices.SweepVertices.{SweepVertices}
 use Rattle.mvt_sweep.specs.Bounds.{IsInBounds}
 
--- how many pairs so many edges have
-unfoldable pub pairs_of : ℕ → ℕ
-pairs_of zero = 0
-pairs_of (suc edges) = pairs_of edges + edges
+-- how many probes hold each of so many edges against those before it: one for each four of these, and one for the others
+unfoldable pub probes_of : ℕ → ℕ
+probes_of zero = 0
+probes_of (suc edges) = probes_of edges + (edges / 4 + 1)
 
 -- two different edges, the lesser number first
 pub record IsPair (vertices : SweepVertices) (first second : ℕ) : Type 0 where
@@ -47,6 +49,6 @@ pub record AreEndsWithin (bounds : Bounds) (edge : Edge) : Type 0 where
   pub end : IsInBounds bounds edge.b
 
 -- the bounds of so many edges, by their numbers
-pub record AreEdgeBounds (vertices : SweepVertices) (many : ℕ) (list : List Bounds) : Type 0 where
-  pub count : length list ≡ many
-  pub each : (number : ℕ) (its : Bounds) → slice_get list number ≡ Some its → AreEndsWithin its (edge_at vertices number)
+pub record AreEdgeBounds (vertices : SweepVertices) (many : ℕ) (list : EdgeBounds) : Type 0 where
+  pub count : bounds_count list ≡ many
+  pub each : (number : ℕ) → number < many → AreEndsWithin (bounds_at list number) (edge_at vertices number)

@@ -10,8 +10,9 @@ use arrayvec::ArrayVec;
 use mvt_plane::{GREATEST_COORDINATE, Point};
 use std::alloc::{AllocError, Global};
 
-/// The most vertices that are listed with no memory from the heap.
-pub(crate) const FEW_VERTICES: usize = 16;
+/// The most vertices that are listed with no memory from the heap. (Of more edges there are too many
+/// pairs.)
+pub(crate) const FEW_VERTICES: usize = 40;
 
 /// A list of so few.
 pub(crate) type FewVertices = ArrayVec<SweepVertex, FEW_VERTICES>;
@@ -36,7 +37,7 @@ pub(crate) fn list_of(alloc: Global, rings: &[Vec<Point>]) -> Result<Vec<SweepVe
 pub(crate) fn list_few(rings: &[Vec<Point>], list: &mut FewVertices)
     requires proper { AreProperRings (rings_of rings.now) }
     requires one { length rings.now ≡ 1 }
-    requires few { vertex_count (rings_of rings.now) ≤ 16 }
+    requires few { vertex_count (rings_of rings.now) ≤ 40 }
     requires empty { list.old.items ≡ [] }
     ensures list { IsListOf (rings_of rings.now) list.new.items }
     ensures linked { AreLinked list.new.items }

@@ -1,18 +1,14 @@
-use Rattle.std.proofs.Common.{rules, ◌≡◌, ap, refl, arith}
-use Rattle.mvt_sweep.specs.Calls.SweepVertices.{AreSweepVertices, sweep_count}
-use Rattle.mvt_sweep.specs.Work.{vertex_count}
-use Rattle.mvt_sweep.specs.Calls.Pairs.{pairs_of}
+use Rattle.std.proofs.Common.{rules, ℕ, [], refl}
+use Rattle.std.proofs.lemmas.List.Elements.{All-nil}
+use Rattle.mvt_sweep.specs.Calls.Sweep.{Tested}
+use Rattle.mvt_sweep.specs.Calls.SweepVertices.{AreSweepVertices, plan_of}
+use Rattle.mvt_sweep.proofs.Vertices.PairsEnough.{none_by_pairs}
+use Rattle.mvt_sweep.proofs.Vertices.VertexPlans.{none_of_rings}
 use Rattle.mvt_sweep.specs.Rings.{rings_of}
-use Rattle.mvt_sweep.proofs.Sweeps.LeastWork.{counted_by, pairs_of_rings, tested_there}
 use Rattle.mvt_sweep.proofs.meeting.self_intersection.Goals as goal
 
-pub returns-then-find_pairs-clause-least : goal.returns-then-find_pairs-clause-least
-returns-then-find_pairs-clause-least c =
-    let rings = rings_of c.args.rings.now in
+pub returns-then-are_convex_four-clause-none : goal.returns-then-are_convex_four-clause-none
+returns-then-are_convex_four-clause-none c =
     let vertices = c.new-vertices.result in
-    let are : AreSweepVertices rings vertices = search rules in
-    let size : sweep_count vertices ≡ vertex_count rings = are.count in
-    let pairs : pairs_of (sweep_count vertices) ≡ pairs_of (vertex_count rings) = ap pairs_of size in
-    counted_by (vertex_count rings) c.args.count.now c.find_pairs.new.count c.meeting_among.new.count c.meeting_among.result (omega (arith, c.find_pairs.ensures.counted.no_fewer_tests))
-    (omega (arith, c.if-find_pairs.ensures.probed refl, pairs, pairs_of_rings rings c.requires.proper, c.meeting_among.ensures.counted.no_fewer_probes))
-    (tested_there c.find_pairs.new.count c.meeting_among.new.count c.meeting_among.result c.meeting_among.ensures.least)
+    let are : AreSweepVertices (rings_of c.args.rings.now) vertices = search rules in
+    none_of_rings (rings_of c.args.rings.now) vertices c.requires.proper are (none_by_pairs vertices [] (c.if-are_convex_four.ensures.enough refl) (All-nil (λ (pair : ℕ × ℕ). Tested (plan_of vertices) pair.0 pair.1)))

@@ -1,5 +1,5 @@
 use Rattle.mvt_sweep.specs.Calls.Pairs.{AreEnough}
-use Rattle.mvt_sweep.proofs.pairs.add_pairs.Given as goal
+use Rattle.mvt_sweep.proofs.pairs.add_some.Given as goal
 
 -- the edge was held against those so far
 abbrev pub invariant-loop-first : goal.invariant-loop-first
