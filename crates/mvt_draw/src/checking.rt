@@ -18,8 +18,9 @@ use mvt_tile::Kind;
 use mvt_wire::NumberSource;
 
 /// What keeps the numbers of a geometry from drawing a figure of the kind: the cause and the place
-/// among them, counted from 0 (Mapbox Vector Tile Specification 2.1, section 4.3). None where they
-/// draw one, and for a geometry of unknown kind. It takes no memory.
+/// among them, counted from 0, or how many they are where more is due (Mapbox Vector Tile
+/// Specification 2.1, section 4.3). None where they draw one, and for a geometry of unknown kind. It
+/// takes no memory.
 pub fn command_fault<N: NumberSource + Drop>(kind: Kind, numbers: N) -> Option<(CommandCode, usize)>
     requires few { N.most numbers < 2 ^ 64 }
     ensures figure { IfNone result ((given : List ℕ) → N.Leaves numbers given

@@ -69,7 +69,7 @@ pub record ReaderShows {A T : Type 0} (known : T → Option (List ℕ)) (old new
   pub counted : IfErr result (λ _. (input : List ℕ) × ReadsBytes known old new input)
   pub no_claim : IfErr result (λ fault. ¬ IsOfClaim fault)
 
--- An engine is described by its answers: which outcome and which line answer an input. Where there are two lines, both in
+-- An engine is described by its answers: which outcome and which line answer an input. Where there are several lines, all in
 -- turn stand for the line.
 
 -- the engine read its whole input, and the line of an answer to it went out, once and whole

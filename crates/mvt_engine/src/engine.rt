@@ -30,10 +30,10 @@ const CHUNK_LENGTH: usize = 65_536;
 #[derive(Clone, Copy, Debug, PartialEq, Eq)]
 pub enum Outcome {
     /// `fields`: the outermost fields. `dump`: what the tile holds. `check`: that the tile is
-    /// valid. `confirm`: that the fault is true of the tile.
+    /// valid. `mend`: a valid tile. `confirm`: that the fault is true of the tile.
     Yes,
-    /// `fields`, `dump` and `check`: a fault of the tile. `confirm`: that the fault isn't true of
-    /// the tile.
+    /// `fields`, `dump` and `check`: a fault of the tile. `mend`: one for which it is refused.
+    /// `confirm`: that the fault isn't true of the tile.
     No,
 }
 
@@ -68,7 +68,7 @@ pub trait Task {
     // this outcome and this line answer the input
     ghost IsAnswer: { Self → List ℕ → Outcome → List ℕ → Type 0 };
 
-    /// An answer to the input, and its line with the LF. A task with two lines gives both in one
+    /// An answer to the input, and its line with the LF. A task with several lines gives all in one
     /// text.
     fn answer(&self, alloc: Global, input: &[u8]) -> Result<(Outcome, String), AllocError>
         ensures { IfOk result (λ r. IsAnswer self.now input.now r.0 (string_bytes r.1)) };

@@ -72,14 +72,15 @@ pub enum Fault {
         /// The ordinal of the ring in the feature, counted from 0.
         ring: usize,
     },
-    /// Two edges of a polygon have a point in common that isn't the vertex between them as
-    /// neighbours (section 4.3.4.4). The point is (x / w, y / w).
+    /// Two edges of a polygon, or in the profile `Profile::Feature` of two, have a point in common
+    /// that isn't the vertex between them as neighbours (section 4.3.4.4). The point is
+    /// (x / w, y / w).
     Meeting {
         /// The ordinal of the feature's layer, counted from 0.
         layer: usize,
         /// The ordinal of the feature in its layer, counted from 0.
         feature: usize,
-        /// The ordinal of the polygon in the feature, counted from 0.
+        /// The ordinal in the feature of the polygon that the second edge is of, counted from 0.
         polygon: usize,
         /// The edge that comes first, by its ring and then by its own ordinal.
         first: RingEdge,

@@ -24,28 +24,29 @@ use Rattle.mvt_gate.specs.Calls.Polygons.{IsFirstOfRingsFor}
 use Rattle.mvt_gate.specs.Quick.{IsFreeFor}
 use Rattle.mvt_gate.specs.declared.quick.Search.{Search}
 
--- what is known where nothing is found
-abbrev WhereNone : {E : Type 0} → Result (Option Fault) E → Type 0 → Type 0
-WhereNone found Holds = IfOk found (λ fault. IfNone fault Holds)
+-- what is known where a call finds nothing
+abbrev WhereNone : {R E : Type 0} → Result R E → Option Fault → Type 0 → Type 0
+WhereNone result found Holds = IfOk result (λ _. IfNone found Holds)
 
 -- and what follows from it
-where_none : {E : Type 0} (First Second : Type 0) (found : Result (Option Fault) E) → (First → Second) → WhereNone found First → WhereNone found Second
-where_none First Second found so = IfOk-weaker found (λ fault. IfNone fault First) (λ fault. IfNone fault Second) (λ fault none. IfNone_then fault none so)
+pub where_none : {R E : Type 0} (First Second : Type 0) (result : Result R E) (found : Option Fault) → (First → Second) → WhereNone result found First → WhereNone result found Second
+where_none First Second result found so = IfOk-weaker result (λ _. IfNone found First) (λ _. IfNone found Second) (λ _ none. IfNone_then found none so)
 
-module _ {E : Type 0} (search : Search) (profile : Profile) (found : Result (Option Fault) E) (IsIt : FeatureRecord → Type 0) where
+module _ {R E : Type 0} (search : Search) (profile : Profile) (result : Result R E) (found : Option Fault) (IsIt : FeatureRecord → Type 0) where
   -- where the rings of a feature are those of valid polygons, its geometry is valid
   pub valid_by_rings : (parts drawn : List (List Position)) → parts ≡ drawn → ((it : FeatureRecord) → IsIt it → it.kind ≡ type_number polygon) → ((it : FeatureRecord) → IsIt it → HasRings (type_number polygon) it.geometry drawn)
-      → WhereNone found (AreValidRingsBy profile parts) → WhereNone found ((it : FeatureRecord) → IsIt it → IsValidGeometryBy profile it)
+      → WhereNone result found (AreValidRingsBy profile parts) → WhereNone result found ((it : FeatureRecord) → IsIt it → IsValidGeometryBy profile it)
   valid_by_rings parts drawn all kind has =
-      where_none (AreValidRingsBy profile parts) ((it : FeatureRecord) → IsIt it → IsValidGeometryBy profile it) found
+      where_none (AreValidRingsBy profile parts) ((it : FeatureRecord) → IsIt it → IsValidGeometryBy profile it) result found
       (λ valid it is. valid_of_rings profile it parts (subst (λ (its : List (List Position)). HasRings it.kind it.geometry its) (sym all) (subst (λ (n : ℕ). HasRings n it.geometry drawn) (sym (kind it is)) (has it is))) valid)
 
   -- the first fault of its rings is the first of its geometry
   pub least_by_rings : (parts drawn : List (List Position)) (layer ordinal : ℕ) → parts ≡ drawn → ((it : FeatureRecord) → IsIt it → it.kind ≡ type_number polygon) → ((it : FeatureRecord) → IsIt it → HasRings (type_number polygon) it.geometry drawn)
-      → IfOk found (λ fault. IfSome fault (IsFirstOfRingsFor search profile parts layer ordinal)) → IfOk found (λ fault. IfSome fault (λ first. (it : FeatureRecord) → IsIt it → IsLeastOr (IsFreeFor search profile) (IsFaultOfGeometryBy profile it layer ordinal) first))
+      → IfOk result (λ _. IfSome found (IsFirstOfRingsFor search profile parts layer ordinal))
+      → IfOk result (λ _. IfSome found (λ first. (it : FeatureRecord) → IsIt it → IsLeastOr (IsFreeFor search profile) (IsFaultOfGeometryBy profile it layer ordinal) first))
   least_by_rings parts drawn layer ordinal all kind has =
-      IfOk-weaker found _ _
-      (λ fault some. IfSome_then fault some
+      IfOk-weaker result _ _
+      (λ _ some. IfSome_then found some
       (λ first least it is. least it (subst (λ (its : List (List Position)). HasRings it.kind it.geometry its) (sym all) (subst (λ (n : ℕ). HasRings n it.geometry drawn) (sym (kind it is)) (has it is)))))
 
 -- the number of polygons is that of no other kind

@@ -17,5 +17,6 @@ pub mod PolygonPlaces
 pub mod PolygonWalk
 pub mod QuickVerdicts
 pub mod SeenFigures
+pub mod Stored
 pub mod ValidGeometries
 pub mod Verdicts

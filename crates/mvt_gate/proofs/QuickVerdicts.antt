@@ -1,5 +1,5 @@
 -- What a quick verdict says of all faults that are true of bytes: it is the judge's own, but where edges of its feature meet.
-use Rattle.std.proofs.Common.{◌≡◌, ◌↔◌, ℕ, List, refl}
+use Rattle.std.proofs.Common.{◌≡◌, ◌↔◌, ℕ, List, Option, Some, None, refl}
 use Rattle.mvt_rules.proofs.Validity.TrueFaults.{shown_is_invalid}
 use Rattle.mvt_rules.specs.Shows.{ShowsBy}
 use Rattle.mvt_rules.specs.Valid.{ValidBy}
@@ -12,7 +12,7 @@ use Rattle.mvt_tile.proofs.RuleFaults.FreeFaults.{least_or_holds, least_unless_f
 use Rattle.mvt_tile.specs.FreeFaults.{of_least, of_free}
 use Rattle.mvt_gate.specs.FaultList.{HasNoMeetingIn, subject_of}
 use Rattle.mvt_gate.specs.Quick.{IsFreeBy, HasMeetingCode, IsQuickFaultBy}
-use Rattle.mvt_gate.specs.Verdict.{IsQuickVerdictBy, IsVerdictBy, IsVerdictFor}
+use Rattle.mvt_gate.specs.Verdict.{IsQuickVerdictBy, IsVerdictBy, IsVerdictFor, verdict_of}
 use Rattle.mvt_gate.specs.declared.quick.Search.{Search}
 use Rattle.mvt_gate.specs.declared.quick.Search.TheVariants.{Least, Quick}
 use Rattle.mvt_gate.specs.declared.verdict.Verdict.{Verdict}
@@ -65,3 +65,10 @@ yes_where_valid Least profile bytes Yes valid = (λ same. valid, λ its. refl)
 yes_where_valid Quick profile bytes Yes valid = (λ same. valid, λ its. refl)
 yes_where_valid Least profile bytes (No fault) least = (λ same. absurd (cc), λ valid. absurd (shown_is_invalid profile bytes fault least.holds valid))
 yes_where_valid Quick profile bytes (No fault) quick = (λ same. absurd (cc), λ valid. absurd (shown_is_invalid profile bytes fault (quick_is_shown profile bytes fault quick) valid))
+
+-- and no fault is found
+pub none_where_valid : (search : Search) (profile : Profile) (bytes : List ℕ) (found : Option Fault) → IsVerdictFor search profile bytes (verdict_of found) → (found ≡ None) ↔ ValidBy profile bytes
+none_where_valid Least profile bytes None valid = (λ same. valid, λ its. refl)
+none_where_valid Quick profile bytes None valid = (λ same. valid, λ its. refl)
+none_where_valid Least profile bytes (Some fault) least = (λ same. absurd (cc), λ valid. absurd (shown_is_invalid profile bytes fault least.holds valid))
+none_where_valid Quick profile bytes (Some fault) quick = (λ same. absurd (cc), λ valid. absurd (shown_is_invalid profile bytes fault (quick_is_shown profile bytes fault quick) valid))

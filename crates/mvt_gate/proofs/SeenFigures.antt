@@ -1,7 +1,5 @@
 -- What the first walk has seen, by the rules of any profile.
-use Rattle.std.proofs.Common.{◌≡◌, ◌⊎◌, ℕ, inl, inr, true, false, List}
-use Rattle.std.proofs.lemmas.Bool.{both_ways}
-use Rattle.mvt_fault.specs.declared.fault.Fault.{Fault}
+use Rattle.std.proofs.Common.{ℕ, inl, inr, List}
 use Rattle.mvt_fault.specs.declared.profile.Profile.{Profile}
 use Rattle.mvt_rules.specs.Parts.Geometry.{IsFaultOfGeometryBy}
 use Rattle.mvt_rules.specs.Tile.{FeatureRecord, LayerRecord}

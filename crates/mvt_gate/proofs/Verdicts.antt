@@ -1,6 +1,6 @@
 -- Verdicts by the parts of a tile. No bytes have two, and no input has two answers of `check`, but for two meetings in one
 -- polygon.
-use Rattle.std.proofs.Common.{◌≡◌, ◌↔◌, ℕ, List, ◌⊎◌, inl, inr, refl, sym, ◌∙◌, ap, subst}
+use Rattle.std.proofs.Common.{◌≡◌, ◌↔◌, ℕ, List, Option, Some, None, IfNone, IfSome, Result, Ok, Err, OnOk, ◌⊎◌, inl, inr, refl, sym, ◌∙◌, ap, subst}
 use Rattle.mvt_rules.proofs.Validity.ShownParts.{shown_by_parts}
 use Rattle.mvt_rules.proofs.Validity.TrueFaults.{no_fault_of_tile, shown_is_invalid}
 use Rattle.mvt_rules.proofs.Validity.ValidParts.{valid_by_parts}
@@ -24,7 +24,7 @@ use Rattle.mvt_wire.specs.declared.scope.Scope.{Scope}
 use Rattle.mvt_gate.specs.Check.{IsCheckAnswerBy}
 use Rattle.mvt_engine.specs.FaultLine.{fault_line}
 use Rattle.mvt_gate.specs.Quick.{IsFreeBy, IsQuickFaultBy}
-use Rattle.mvt_gate.specs.Verdict.{IsVerdictBy}
+use Rattle.mvt_gate.specs.Verdict.{IsQuickVerdictBy, IsVerdictBy, verdict_of}
 use Rattle.mvt_engine.specs.declared.engine.Outcome.{Outcome}
 use Rattle.mvt_engine.specs.declared.engine.Outcome.TheVariants as outcomes
 use Rattle.mvt_gate.specs.declared.verdict.Verdict.{Verdict}
@@ -93,6 +93,32 @@ least_of_tile profile bytes = first_of_tile bytes (ShowsBy profile bytes) (IsFau
 pub quick_of_tile : (profile : Profile) (bytes : List ℕ) (fault : Fault) → ((scope : Scope) (cause : WireCause) → ¬ WireFault bytes scope cause)
     → ((tile : TileRecord) → IsTile bytes tile → IsLeastOr (IsFreeBy profile) (BreaksAnyRule (IsFaultOfGeometryBy profile) tile) fault) → IsQuickFaultBy profile bytes fault
 quick_of_tile profile bytes = found_of_tile bytes (ShowsBy profile bytes) (IsFaultOfGeometryBy profile) (shown_by_parts profile bytes) (IsFreeBy profile)
+
+-- the verdict where the first fault of the tile is found, or none
+pub verdict_by_rules : (profile : Profile) (bytes : List ℕ) (found : Option Fault) → ((scope : Scope) (cause : WireCause) → ¬ WireFault bytes scope cause)
+    → IfNone found ((tile : TileRecord) → IsTile bytes tile → KeepsRules (IsValidGeometryBy profile) tile)
+    → IfSome found (λ fault. (tile : TileRecord) → IsTile bytes tile → IsLeast (BreaksAnyRule (IsFaultOfGeometryBy profile) tile) fault) → IsVerdictBy profile bytes (verdict_of found)
+verdict_by_rules profile bytes None none keeps least = valid_without_fault profile bytes none keeps
+verdict_by_rules profile bytes (Some fault) none keeps least = least_of_tile profile bytes fault none least
+
+pub quick_by_rules : (profile : Profile) (bytes : List ℕ) (found : Option Fault) → ((scope : Scope) (cause : WireCause) → ¬ WireFault bytes scope cause)
+    → IfNone found ((tile : TileRecord) → IsTile bytes tile → KeepsRules (IsValidGeometryBy profile) tile)
+    → IfSome found (λ fault. (tile : TileRecord) → IsTile bytes tile → IsLeastOr (IsFreeBy profile) (BreaksAnyRule (IsFaultOfGeometryBy profile) tile) fault) → IsQuickVerdictBy profile bytes (verdict_of found)
+quick_by_rules profile bytes None none keeps first = valid_without_fault profile bytes none keeps
+quick_by_rules profile bytes (Some fault) none keeps first = quick_of_tile profile bytes fault none first
+
+-- where that wasn't refused memory
+pub verdict_found : {R E : Type 0} (profile : Profile) (bytes : List ℕ) (result : Result R E) (found : Option Fault) → ((scope : Scope) (cause : WireCause) → ¬ WireFault bytes scope cause)
+    → OnOk result (IfNone found ((tile : TileRecord) → IsTile bytes tile → KeepsRules (IsValidGeometryBy profile) tile))
+    → OnOk result (IfSome found (λ fault. (tile : TileRecord) → IsTile bytes tile → IsLeast (BreaksAnyRule (IsFaultOfGeometryBy profile) tile) fault)) → OnOk result (IsVerdictBy profile bytes (verdict_of found))
+verdict_found profile bytes (Ok r) found none keeps least = verdict_by_rules profile bytes found none keeps least
+verdict_found profile bytes (Err e) found none keeps least = tt
+
+pub quick_found : {R E : Type 0} (profile : Profile) (bytes : List ℕ) (result : Result R E) (found : Option Fault) → ((scope : Scope) (cause : WireCause) → ¬ WireFault bytes scope cause)
+    → OnOk result (IfNone found ((tile : TileRecord) → IsTile bytes tile → KeepsRules (IsValidGeometryBy profile) tile))
+    → OnOk result (IfSome found (λ fault. (tile : TileRecord) → IsTile bytes tile → IsLeastOr (IsFreeBy profile) (BreaksAnyRule (IsFaultOfGeometryBy profile) tile) fault)) → OnOk result (IsQuickVerdictBy profile bytes (verdict_of found))
+quick_found profile bytes (Ok r) found none keeps first = quick_by_rules profile bytes found none keeps first
+quick_found profile bytes (Err e) found none keeps first = tt
 
 -- the verdict on bytes that aren't valid names a fault that is true of them
 pub fault_of_invalid : (profile : Profile) (bytes : List ℕ) (verdict : Verdict) → IsVerdictBy profile bytes verdict → ¬ ValidBy profile bytes → (fault : Fault) × (verdict ≡ No fault) × ShowsBy profile bytes fault

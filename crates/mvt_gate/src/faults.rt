@@ -24,9 +24,9 @@ use std::alloc::{AllocError, Global};
 /// `judge_with`, and the list is empty exactly where the bytes are a valid tile. Each is true of the
 /// bytes: `confirm_with` accepts it. Bytes with a wire fault are no tile, and have that one alone.
 ///
-/// The tile is gone over once, with the work of one verdict, and its memory grows with the faults.
-/// The only error is that memory was refused, and so it is answered for a feature of 2^32 vertices or
-/// more: such a tile has more than 8.6 GB.
+/// The tile is walked for wire faults, and then for all others, with the work of a verdict on each
+/// feature, and its memory grows with the faults. The only error is that memory was refused, and so
+/// it is answered for a feature of 2^32 vertices or more: such a tile has more than 8.5 GB.
 pub fn faults_with(alloc: Global, profile: Profile, bytes: &[u8]) -> Result<Vec<Fault>, AllocError>
     ensures list { IfOk result (λ faults.
         AreFaultsFor Search.Least profile bytes.now faults.items) }

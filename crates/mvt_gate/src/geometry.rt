@@ -1,5 +1,5 @@
 //! The rule on the geometry of features.
-ghost use Rattle.std.specs.Prelude.{◌≡◌, None, IfOk, IfNone, IfSome};
+ghost use Rattle.std.specs.Prelude.{◌≡◌, Some, None, IfOk, IfNone, IfSome, OnOk};
 ghost use Rattle.mvt_rules.specs.Parts.Geometry.{IsFaultOfGeometryBy};
 ghost use Rattle.mvt_rules.specs.Valid.{IsValidGeometryBy};
 ghost use Rattle.mvt_fault.specs.declared.fault.Fault.{Fault};
@@ -13,10 +13,10 @@ ghost use Rattle.mvt_rules.specs.Tile.{FeatureRecord};
 ghost use Rattle.mvt_gate.specs.Quick.{IsFreeFor};
 ghost use Rattle.mvt_gate.specs.declared.quick.Search.TheVariants as searches;
 
-use crate::polygons::rings_fault;
+use crate::polygons::find_in_rings;
 use crate::quick::Search;
 use mvt_draw::{DrawFault, RingBuffer, command_fault};
-use mvt_fault::{Fault, Profile};
+use mvt_fault::{CommandCode, Fault, Profile};
 use mvt_plane::Count;
 use mvt_tile::{FeatureBytes, FeatureRule, Kind};
 use std::alloc::{AllocError, Global};
@@ -67,30 +67,21 @@ impl GeometryRule {
     {
         match feature.kind() {
             Kind::Polygon => {
-                if let Some(fault) = self.fault_of_polygons(
-                    alloc, search, profile, feature, layer, ordinal,
-                )? {
-                    *found = Some(fault);
-                }
+                self.find_in_polygons(alloc, search, profile, feature, layer, ordinal, found)
             }
             kind => {
                 if let Some((code, index)) = command_fault(kind, feature.geometry()) {
-                    *found = Some(Fault::Command {
-                        code,
-                        layer,
-                        feature: ordinal,
-                        index,
-                    });
+                    store_command(found, code, layer, ordinal, index);
                 }
+                Ok(())
             }
         }
-        Ok(())
     }
 
     /// The same of a feature of the type of polygons. (By itself, so that points and lines, which need
     /// little room, don't pay for its locals.)
     #[inline(never)]
-    fn fault_of_polygons(
+    fn find_in_polygons(
         &mut self,
         alloc: Global,
         search: Search,
@@ -98,17 +89,20 @@ impl GeometryRule {
         feature: &FeatureBytes<'_>,
         layer: usize,
         ordinal: usize,
-    ) -> Result<Option<Fault>, AllocError>
-        requires { (it : FeatureRecord) → Encodes feature.now it → it.kind ≡ type_number polygon }
-        ensures kept { IfOk result (λ found. IfNone found ((it : FeatureRecord)
+        found: &mut Option<Fault>,
+    ) -> Result<(), AllocError>
+        requires nothing { found.old ≡ None }
+        requires kind { (it : FeatureRecord) → Encodes feature.now it
+            → it.kind ≡ type_number polygon }
+        ensures kept { OnOk result (IfNone found.new ((it : FeatureRecord)
             → Encodes feature.now it → IsValidGeometryBy profile it)) }
-        ensures found { IfOk result (λ found. IfSome found (λ fault. (it : FeatureRecord)
+        ensures found { OnOk result (IfSome found.new (λ fault. (it : FeatureRecord)
             → Encodes feature.now it
             → IsLeastOr (IsFreeFor search profile)
             (IsFaultOfGeometryBy profile it layer ordinal) fault)) }
     {
         match self.rings.draw(alloc, feature.geometry()) {
-            Ok(()) => rings_fault(
+            Ok(()) => find_in_rings(
                 alloc,
                 search,
                 profile,
@@ -116,16 +110,36 @@ impl GeometryRule {
                 &mut self.count,
                 layer,
                 ordinal,
+                found,
             ),
-            Err(DrawFault::Command { code, index }) => Ok(Some(Fault::Command {
-                code,
-                layer,
-                feature: ordinal,
-                index,
-            })),
+            Err(DrawFault::Command { code, index }) => {
+                store_command(found, code, layer, ordinal, index);
+                Ok(())
+            }
             Err(DrawFault::Memory) => Err(AllocError),
         }
     }
+}
+
+/// Stores a fault of a feature's commands. (A fault has room of its own where it is made, which the
+/// caller doesn't pay for so.)
+#[cold]
+#[inline(never)]
+fn store_command(
+    found: &mut Option<Fault>,
+    code: CommandCode,
+    layer: usize,
+    feature: usize,
+    index: usize,
+)
+    ensures { found.new ≡ Some (Fault.Command code layer feature index) }
+{
+    *found = Some(Fault::Command {
+        code,
+        layer,
+        feature,
+        index,
+    });
 }
 
 /// The rule by the profile that checks each polygon by itself.

@@ -1,5 +1,4 @@
-//! The gate: it judges a tile, and its engines read a tile from a device and write their answer, of
-//! one line or two.
+//! The gate: it judges a tile, and its engines read a tile from a device and write their answer.
 #![tactic(auto)]
 
 mod advice;
@@ -24,5 +23,5 @@ pub use mvt_engine::{
     write_whole,
 };
 pub use polygons::rings_fault;
-pub use quick::{Search, judge_for, judge_quickly};
+pub use quick::{Search, fault_for, judge_for, judge_quickly};
 pub use verdict::{Verdict, judge, judge_with};

@@ -1,23 +1,17 @@
 //! The verdict whose work is bounded also where polygons of a feature cross.
-ghost use Rattle.std.specs.Prelude.{◌≡◌, ◌↔◌, IfNone, IfOk, IfSome};
-ghost use Rattle.mvt_rules.specs.Parts.Geometry.{IsFaultOfGeometryBy};
+ghost use Rattle.std.specs.Prelude.{◌≡◌, ◌↔◌, IfOk, None, OnOk};
 ghost use Rattle.mvt_rules.specs.Shows.{ShowsBy};
-ghost use Rattle.mvt_rules.specs.Valid.{IsValidGeometryBy, ValidBy};
+ghost use Rattle.mvt_rules.specs.Valid.{ValidBy};
 ghost use Rattle.mvt_fault.specs.declared.fault.Fault.{Fault};
 ghost use Rattle.mvt_fault.specs.declared.profile.Profile.TheVariants as profiles;
-ghost use Rattle.mvt_tile.specs.FreeFaults.{IsLeastOr};
-ghost use Rattle.mvt_tile.specs.RuleFaults.{BreaksAnyRule, KeepsRules};
-ghost use Rattle.mvt_tile.specs.Sound.{AreSoundTo};
-ghost use Rattle.mvt_rules.specs.Tile.{IsTile, TileRecord};
-ghost use Rattle.mvt_gate.specs.Quick.{IsFreeBy};
-ghost use Rattle.mvt_gate.specs.Verdict.{IsQuickVerdictBy, IsVerdictFor};
+ghost use Rattle.mvt_gate.specs.Verdict.{IsQuickVerdictBy, IsVerdictFor, verdict_of};
 ghost use Rattle.mvt_gate.specs.declared.verdict.Verdict.{Verdict};
 
 use crate::first_walk::{FirstWalk, first_walk};
 use crate::geometry::QuickGeometry;
-use crate::verdict::{Verdict, judge_with};
+use crate::verdict::{Verdict, find_fault, verdict_of};
 use mvt_fault::{Fault, Profile};
-use mvt_tile::{Seen, rule_fault_after};
+use mvt_tile::rule_fault_after;
 use std::alloc::{AllocError, Global};
 
 /// Which faults are searched for.
@@ -38,7 +32,7 @@ pub enum Search {
 /// be named in place of its first fault (`specs/Quick.antt`).
 ///
 /// The only error is that memory was refused, and so it is answered for a feature of 2^32 vertices or
-/// more: such a tile has more than 8.6 GB.
+/// more: such a tile has more than 8.5 GB.
 pub fn judge_quickly(alloc: Global, profile: Profile, bytes: &[u8]) -> Result<Verdict, AllocError>
     ensures verdict { IfOk result (IsQuickVerdictBy profile bytes.now) }
     ensures yes_exactly_where_valid { IfOk result (λ verdict. (verdict ≡ Verdict.Yes)
@@ -46,10 +40,9 @@ pub fn judge_quickly(alloc: Global, profile: Profile, bytes: &[u8]) -> Result<Ve
     ensures invalid { IfOk result (λ verdict. ¬ ValidBy profile bytes.now
         → (fault : Fault) × (verdict ≡ Verdict.No fault) × ShowsBy profile bytes.now fault) }
 {
-    match profile {
-        Profile::Polygon => judge_with(alloc, profile, bytes),
-        Profile::Feature => judge_features(alloc, bytes),
-    }
+    let mut found = None;
+    find_quickly(alloc, profile, bytes, &mut found)?;
+    Ok(verdict_of(found))
 }
 
 /// The verdict of either search.
@@ -63,38 +56,62 @@ pub fn judge_for(
     ensures yes_exactly_where_valid { IfOk result (λ verdict. (verdict ≡ Verdict.Yes)
         ↔ ValidBy profile bytes.now) }
 {
+    let mut found = None;
+    fault_for(alloc, search, profile, bytes, &mut found)?;
+    Ok(verdict_of(found))
+}
+
+/// The same for a caller who has room for a fault: the one that the verdict names is stored in `found`,
+/// which is None before, and stays so where the bytes are a valid tile. The only error is that memory
+/// was refused; what `found` holds then means nothing.
+pub fn fault_for(
+    alloc: Global,
+    search: Search,
+    profile: Profile,
+    bytes: &[u8],
+    found: &mut Option<Fault>,
+) -> Result<(), AllocError>
+    requires { found.old ≡ None }
+    ensures verdict { OnOk result (IsVerdictFor search profile bytes.now (verdict_of found.new)) }
+    ensures none_exactly_where_valid { OnOk result ((found.new ≡ None)
+        ↔ ValidBy profile bytes.now) }
+{
     match search {
-        Search::Least => judge_with(alloc, profile, bytes),
-        Search::Quick => judge_quickly(alloc, profile, bytes),
+        Search::Least => find_fault(alloc, profile, bytes, found),
+        Search::Quick => find_quickly(alloc, profile, bytes, found),
     }
 }
 
-/// The quick verdict where the polygons of a feature are kept apart.
-fn judge_features(alloc: Global, bytes: &[u8]) -> Result<Verdict, AllocError>
-    ensures { IfOk result (IsQuickVerdictBy profiles.Feature bytes.now) }
+/// The same for the quick search.
+fn find_quickly(
+    alloc: Global,
+    profile: Profile,
+    bytes: &[u8],
+    found: &mut Option<Fault>,
+) -> Result<(), AllocError>
+    requires { found.old ≡ None }
+    ensures { OnOk result (IsQuickVerdictBy profile bytes.now (verdict_of found.new)) }
 {
-    let seen = match first_walk(alloc, bytes)? {
-        FirstWalk::Valid => return Ok(Verdict::Yes),
-        FirstWalk::Faulty(fault) => return Ok(Verdict::No(fault)),
-        FirstWalk::Whole(seen) => seen,
-    };
-    match fault_of_features(alloc, bytes, seen)? {
-        None => Ok(Verdict::Yes),
-        Some(fault) => Ok(Verdict::No(fault)),
+    match profile {
+        Profile::Polygon => find_fault(alloc, profile, bytes, found),
+        Profile::Feature => find_in_features(alloc, bytes, found),
     }
 }
 
-/// The first fault of a tile, or any meeting of the first feature with a fault, or None where it keeps
-/// all rules. The bytes have no wire fault, and the features that were seen have none.
-fn fault_of_features(alloc: Global, bytes: &[u8], seen: Seen) -> Result<Option<Fault>, AllocError>
-    requires tile { (tile : TileRecord) × IsTile bytes.now tile }
-    requires sound { AreSoundTo (IsFaultOfGeometryBy profiles.Feature) (IsValidGeometryBy profiles.Feature) bytes.now seen }
-    ensures none { IfOk result (λ found. IfNone found ((tile : TileRecord) → IsTile bytes.now tile
-        → KeepsRules (IsValidGeometryBy profiles.Feature) tile)) }
-    ensures found { IfOk result (λ found. IfSome found (λ fault. (tile : TileRecord)
-        → IsTile bytes.now tile
-        → IsLeastOr (IsFreeBy profiles.Feature)
-        (BreaksAnyRule (IsFaultOfGeometryBy profiles.Feature) tile) fault)) }
+/// The same where the polygons of a feature are kept apart.
+fn find_in_features(
+    alloc: Global,
+    bytes: &[u8],
+    found: &mut Option<Fault>,
+) -> Result<(), AllocError>
+    requires { found.old ≡ None }
+    ensures { OnOk result (IsQuickVerdictBy profiles.Feature bytes.now (verdict_of found.new)) }
 {
-    rule_fault_after(alloc, bytes, seen, &mut QuickGeometry::new(alloc))
+    match first_walk(alloc, bytes, found)? {
+        FirstWalk::Valid => Ok(()),
+        FirstWalk::Faulty => Ok(()),
+        FirstWalk::Whole(seen) => {
+            rule_fault_after(alloc, bytes, seen, &mut QuickGeometry::new(alloc), found)
+        }
+    }
 }

@@ -1,5 +1,5 @@
 //! The verdict on bytes: they are a valid tile, or this is their first fault.
-ghost use Rattle.std.specs.Prelude.{◌≡◌, IfNone, IfOk, IfSome};
+ghost use Rattle.std.specs.Prelude.{◌≡◌, IfNone, IfOk, IfSome, None, OnOk};
 ghost use Rattle.mvt_rules.specs.Parts.Geometry.{IsFaultOfGeometryBy};
 ghost use Rattle.mvt_rules.specs.Shows.{Shows, ShowsBy};
 ghost use Rattle.mvt_rules.specs.Valid.{IsValidGeometryBy, Valid, ValidBy};
@@ -8,7 +8,7 @@ ghost use Rattle.mvt_fault.specs.declared.fault.Fault.{Fault};
 ghost use Rattle.mvt_tile.specs.RuleFaults.{BreaksAnyRule, KeepsRules};
 ghost use Rattle.mvt_tile.specs.Sound.{AreSoundTo};
 ghost use Rattle.mvt_rules.specs.Tile.{IsTile, TileRecord};
-ghost use Rattle.mvt_gate.specs.Verdict.{IsVerdict, IsVerdictBy};
+ghost use Rattle.mvt_gate.specs.Verdict.{IsVerdict, IsVerdictBy, verdict_of};
 ghost use Rattle.mvt_gate.specs.declared.verdict.Verdict.{Verdict};
 
 use crate::first_walk::{FirstWalk, first_walk};
@@ -23,8 +23,9 @@ pub enum Verdict {
     /// The bytes are a valid tile: one that keeps every rule that `judge` names, or in the profile
     /// `Profile::Feature` every rule that `judge_with` names.
     Yes,
-    /// They are not. Of all faults that are true of them this one comes first. All meetings of
-    /// edges in one polygon have one place in that order; any of them may be reported.
+    /// They are not. Of all faults that are true of them this one comes first, but that a quick
+    /// verdict may name a meeting in place of it (`judge_quickly`). All meetings of edges in one
+    /// polygon have one place in that order; any of them may be reported.
     No(Fault),
 }
 
@@ -44,7 +45,7 @@ pub enum Verdict {
 /// Edges are tested at most three times for each vertex of their polygon, and the other work that
 /// is counted grows as n log n with the number n of its vertices, also where it has many holes. The
 /// only error is that memory was refused, and so it is answered for a feature of 2^32 vertices or
-/// more: such a tile has more than 8.6 GB.
+/// more: such a tile has more than 8.5 GB.
 pub fn judge(alloc: Global, bytes: &[u8]) -> Result<Verdict, AllocError>
     ensures verdict { IfOk result (IsVerdict bytes.now) }
     ensures invalid { IfOk result (λ verdict. ¬ Valid bytes.now
@@ -65,42 +66,70 @@ pub fn judge(alloc: Global, bytes: &[u8]) -> Result<Verdict, AllocError>
 /// vertices squared; `judge_quickly` leaves that out.
 ///
 /// The only error is that memory was refused, and so it is answered for a feature of 2^32 vertices or
-/// more: such a tile has more than 8.6 GB.
+/// more: such a tile has more than 8.5 GB.
 pub fn judge_with(alloc: Global, profile: Profile, bytes: &[u8]) -> Result<Verdict, AllocError>
     ensures verdict { IfOk result (IsVerdictBy profile bytes.now) }
     ensures invalid { IfOk result (λ verdict. ¬ ValidBy profile bytes.now
         → (fault : Fault) × (verdict ≡ Verdict.No fault) × ShowsBy profile bytes.now fault) }
 {
-    let seen = match first_walk(alloc, bytes)? {
-        FirstWalk::Valid => return Ok(Verdict::Yes),
-        FirstWalk::Faulty(fault) => return Ok(Verdict::No(fault)),
-        FirstWalk::Whole(seen) => seen,
-    };
-    match fault_of_rules(alloc, profile, bytes, seen)? {
-        None => Ok(Verdict::Yes),
-        Some(fault) => Ok(Verdict::No(fault)),
+    let mut found = None;
+    find_fault(alloc, profile, bytes, &mut found)?;
+    Ok(verdict_of(found))
+}
+
+/// The verdict where this fault was found, or none.
+pub(crate) fn verdict_of(found: Option<Fault>) -> Verdict
+    ensures { result ≡ verdict_of found }
+{
+    match found {
+        None => Verdict::Yes,
+        Some(fault) => Verdict::No(fault),
     }
 }
 
-/// The first fault of a tile by its rules and those of the profile, or None where it keeps them.
-/// The bytes have no wire fault, and the features that were seen have none. The only error is that
-/// memory was refused.
-fn fault_of_rules(
+/// Stores the first fault of the bytes by a profile in `found`, which is None before and stays so where
+/// they are a valid tile. (A fault is large, so as an answer it would be copied at each call, and its
+/// room cleared, for valid tiles too.) The only error is that memory was refused.
+pub(crate) fn find_fault(
+    alloc: Global,
+    profile: Profile,
+    bytes: &[u8],
+    found: &mut Option<Fault>,
+) -> Result<(), AllocError>
+    requires { found.old ≡ None }
+    ensures { OnOk result (IsVerdictBy profile bytes.now (verdict_of found.new)) }
+{
+    match first_walk(alloc, bytes, found)? {
+        FirstWalk::Valid => Ok(()),
+        FirstWalk::Faulty => Ok(()),
+        FirstWalk::Whole(seen) => find_rule_fault(alloc, profile, bytes, seen, found),
+    }
+}
+
+/// The same of a tile by its rules and those of the profile. The bytes have no wire fault, and the
+/// features that were seen have none.
+fn find_rule_fault(
     alloc: Global,
     profile: Profile,
     bytes: &[u8],
     seen: Seen,
-) -> Result<Option<Fault>, AllocError>
+    found: &mut Option<Fault>,
+) -> Result<(), AllocError>
+    requires nothing { found.old ≡ None }
     requires tile { (tile : TileRecord) × IsTile bytes.now tile }
     requires sound { AreSoundTo (IsFaultOfGeometryBy profile) (IsValidGeometryBy profile) bytes.now seen }
-    ensures none { IfOk result (λ found. IfNone found ((tile : TileRecord) → IsTile bytes.now tile
+    ensures none { OnOk result (IfNone found.new ((tile : TileRecord) → IsTile bytes.now tile
         → KeepsRules (IsValidGeometryBy profile) tile)) }
-    ensures least { IfOk result (λ found. IfSome found (λ fault. (tile : TileRecord)
+    ensures least { OnOk result (IfSome found.new (λ fault. (tile : TileRecord)
         → IsTile bytes.now tile
         → IsLeast (BreaksAnyRule (IsFaultOfGeometryBy profile) tile) fault)) }
 {
     match profile {
-        Profile::Polygon => rule_fault_after(alloc, bytes, seen, &mut PolygonGeometry::new(alloc)),
-        Profile::Feature => rule_fault_after(alloc, bytes, seen, &mut FeatureGeometry::new(alloc)),
+        Profile::Polygon => {
+            rule_fault_after(alloc, bytes, seen, &mut PolygonGeometry::new(alloc), found)
+        }
+        Profile::Feature => {
+            rule_fault_after(alloc, bytes, seen, &mut FeatureGeometry::new(alloc), found)
+        }
     }
 }

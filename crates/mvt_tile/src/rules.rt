@@ -72,40 +72,42 @@ pub fn rule_fault<R: FeatureRule>(
         → IsTile bytes.now tile
         → IsLeast (BreaksAnyRule R.IsBroken tile) fault)) }
 {
-    rule_fault_after(alloc, bytes, Seen::nothing(), rule)
+    let mut found = None;
+    rule_fault_after(alloc, bytes, Seen::nothing(), rule, &mut found)?;
+    Ok(found)
 }
 
 /// The same where no feature in front of an offset has a fault: those features aren't looked at, but
-/// where a tag of their layer names a key or a value that it doesn't have.
+/// where a tag of their layer names a key or a value that it doesn't have. The fault is stored in
+/// `found`, which is None before. (As an answer it would be copied at each call.)
 pub fn rule_fault_after<R: FeatureRule>(
     alloc: Global,
     bytes: &[u8],
     seen: Seen,
     rule: &mut R,
-) -> Result<Option<Fault>, AllocError>
+    found: &mut Option<Fault>,
+) -> Result<(), AllocError>
+    requires nothing { found.old ≡ None }
     requires tile { (tile : TileRecord) × IsTile bytes.now tile }
     requires sound { AreSoundTo R.IsBroken R.IsKept bytes.now seen }
     requires after_tags { (feature_record : FeatureRecord) (layer_index feature_index : ℕ)
         (fault : Fault)
         → R.IsBroken feature_record layer_index feature_index fault
         → IsAfterTags layer_index feature_index (place_of fault) }
-    ensures none { IfOk result (λ found. IfNone found ((tile : TileRecord) → IsTile bytes.now tile
+    ensures none { OnOk result (IfNone found.new ((tile : TileRecord) → IsTile bytes.now tile
         → KeepsRules R.IsKept tile)) }
-    ensures found { IfOk result (λ found. IfSome found (λ fault. (tile : TileRecord)
+    ensures found { OnOk result (IfSome found.new (λ fault. (tile : TileRecord)
         → IsTile bytes.now tile
         → IsLeastOr R.IsFree (BreaksAnyRule R.IsBroken tile) fault)) }
     ensures least { ((fault : Fault) → ¬ R.IsFree fault)
-        → IfOk result (λ found. IfSome found (λ fault. (tile : TileRecord)
+        → OnOk result (IfSome found.new (λ fault. (tile : TileRecord)
         → IsTile bytes.now tile
         → IsLeast (BreaksAnyRule R.IsBroken tile) fault)) }
 {
     let mut layers = LayerRules::new(alloc);
-    let mut found = None;
-    walk_layers(alloc, bytes, seen, rule, &mut layers, &mut found)?;
-    match layers.fault() {
-        Some(fault) => Ok(Some(fault)),
-        None => Ok(found),
-    }
+    walk_layers(alloc, bytes, seen, rule, &mut layers, found)?;
+    layers.find_fault(found);
+    Ok(())
 }
 
 /// Walks over the layers of a tile, up to the first that has another version than 2, and stores the

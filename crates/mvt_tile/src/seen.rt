@@ -6,7 +6,8 @@ use crate::rules::TagNeeds;
 /// How far one walk over a tile has come, where it doesn't say that the tile is right.
 #[derive(Clone, Copy)]
 pub struct Seen {
-    /// Nothing is wrong in front of this offset.
+    /// No layer, value or feature that ends in front of this offset has a wire fault, and no feature
+    /// there another one.
     pub to: usize,
     /// How many keys and values the layer at the offset must have, so that its features in front of it
     /// have those that their tags name.

@@ -29,9 +29,10 @@ use std::alloc::{AllocError, Global};
 /// Whether the bytes are known, after one walk over them, to be a tile without wire fault
 /// (`wire_fault`) that keeps the rules (`rule_fault`), of which each feature keeps a further one. It
 /// ends at the first part that doesn't look as writers make it, and then says no more than how far it
-/// has come: false may be said of any bytes, and in front of the offset `seen.to` nothing is wrong.
-/// Its memory is for the names of the layers and for marks of keys. The only error is that memory was
-/// refused.
+/// has come: false may be said of any bytes. No layer, value or feature that ends in front of the
+/// offset `seen.to` has a wire fault then, and no feature there another one; versions and names of
+/// layers are left open. Its memory is for the names of the layers and for marks of keys. The only
+/// error is that memory was refused.
 pub fn passes_one_walk<T: FeatureTest>(
     alloc: Global,
     bytes: &[u8],
@@ -51,10 +52,7 @@ pub fn passes_one_walk<T: FeatureTest>(
     if !walk_layers(bytes, test, seen, &mut layers, &mut buffer)? {
         return Ok(false);
     }
-    match layers.fault() {
-        None => Ok(true),
-        Some(_) => Ok(false),
-    }
+    Ok(!layers.has_fault())
 }
 
 /// The same before the names of the layers are compared, which `layers` keeps.

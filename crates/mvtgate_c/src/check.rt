@@ -10,7 +10,7 @@ use crate::fault_text::hand_fault;
 use crate::profile::{no_profile, profile_of};
 use crate::status::{NO_MEMORY, VALID};
 use mvt_fault::Profile;
-use mvt_gate::{Search, Verdict, judge_for};
+use mvt_gate::{Search, fault_for};
 use std::alloc::Global;
 
 /// ```c
@@ -113,9 +113,12 @@ fn check_by(
     ensures untouched { result ≢ pos 1 → text.new ≡ text.old }
 {
     *text_length = 0;
-    match judge_for(alloc, search, by, tile) {
-        Ok(Verdict::Yes) => VALID,
-        Ok(Verdict::No(fault)) => hand_fault(alloc, fault, text, text_length),
+    let mut found = None;
+    match fault_for(alloc, search, by, tile, &mut found) {
+        Ok(()) => match found {
+            None => VALID,
+            Some(fault) => hand_fault(alloc, fault, text, text_length),
+        },
         Err(_) => NO_MEMORY,
     }
 }

@@ -1,4 +1,5 @@
-//! The gate for programs in C, and in any language that calls C: the exports of a static library.
+//! The gate for programs in C, and in any language that calls C (Mapbox Vector Tile Specification
+//! 2.1): the exports of a static library.
 //! Each says what it writes and writes nothing else, and none keeps anything from one call to the
 //! next.
 #![tactic(auto)]

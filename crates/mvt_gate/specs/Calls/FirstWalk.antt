@@ -1,6 +1,7 @@
 -- What is known of the bytes of a tile before its polygons are looked at.
-use Rattle.std.specs.Prelude.{ℕ, List}
+use Rattle.std.specs.Prelude.{◌≡◌, ℕ, List, Option, Some, None}
 use Rattle.mvt_fault.specs.Place.{IsLeast}
+use Rattle.mvt_fault.specs.declared.fault.Fault.{Fault}
 use Rattle.mvt_fault.specs.declared.profile.Profile.{Profile}
 use Rattle.mvt_rules.specs.Parts.TrueFaults.{IsWireFault}
 use Rattle.mvt_rules.specs.Parts.Geometry.{IsFaultOfGeometryBy}
@@ -12,10 +13,11 @@ use Rattle.mvt_tile.specs.Sound.{AreSoundTo}
 use Rattle.mvt_gate.specs.declared.first_walk.FirstWalk.{FirstWalk}
 use Rattle.mvt_gate.specs.declared.first_walk.FirstWalk.TheVariants.{Valid, Faulty, Whole}
 
--- they are a valid tile by each profile; or this is their first wire fault; or they have none, and the features that were seen have
--- no fault by any profile
-abbrev pub IsFirstWalk : List ℕ → FirstWalk → Type 0
-IsFirstWalk bytes Valid = (profile : Profile) → ValidBy profile bytes
-IsFirstWalk bytes (Faulty fault) = IsLeast (IsWireFault bytes) fault
-IsFirstWalk bytes (Whole seen) =
-    ((scope : Scope) (cause : WireCause) → ¬ WireFault bytes scope cause) × ((profile : Profile) → AreSoundTo (IsFaultOfGeometryBy profile) (IsValidGeometryBy profile) bytes seen)
+-- they are a valid tile by each profile; or their first wire fault is stored; or they have none, and the features that were seen
+-- have no fault by any profile; and otherwise nothing is stored
+abbrev pub IsFirstWalk : List ℕ → FirstWalk → Option Fault → Type 0
+IsFirstWalk bytes Valid found = (found ≡ None) × ((profile : Profile) → ValidBy profile bytes)
+IsFirstWalk bytes Faulty found = (fault : Fault) × (found ≡ Some fault) × IsLeast (IsWireFault bytes) fault
+IsFirstWalk bytes (Whole seen) found =
+    (found ≡ None)
+    × (((scope : Scope) (cause : WireCause) → ¬ WireFault bytes scope cause) × ((profile : Profile) → AreSoundTo (IsFaultOfGeometryBy profile) (IsValidGeometryBy profile) bytes seen))

@@ -17,6 +17,8 @@ use Rattle.mvt_feature.specs.declared.feature.FeatureCause.{FeatureCause}
 use Rattle.mvt_feature.specs.declared.feature.FeatureCause.TheVariants as causes
 use Rattle.mvt_feature.specs.declared.feature.FeatureFault.{FeatureFault}
 use Rattle.mvt_sweep.specs.declared.meeting.Meeting.{Meeting}
+use Rattle.mvt_polygon.specs.declared.polygon.PolygonFault.{PolygonFault}
+use Rattle.mvt_polygon.specs.declared.polygon.PolygonFault.TheVariants as polygon_faults
 use Rattle.mvt_polygon.specs.declared.nesting.NestFault.{NestFault}
 use Rattle.mvt_polygon.specs.declared.nesting.NestFault.TheVariants as nest_faults
 use Rattle.mvt_tile.specs.FreeFaults.{IsLeastOr}
@@ -63,6 +65,11 @@ meeting_fault place meeting =
 abbrev pub hole_fault : PolygonPlace → NestFault → Fault
 hole_fault place (nest_faults.Outside ring vertex) = faults.Outside place.layer place.feature place.polygon ring vertex
 hole_fault place (nest_faults.InHole ring vertex other) = faults.HoleInHole place.layer place.feature place.polygon ring vertex other
+
+-- the fault of what is wrong with a polygon by itself
+abbrev pub polygon_fault : PolygonPlace → PolygonFault → Fault
+polygon_fault place (polygon_faults.Meeting meeting) = meeting_fault place meeting
+polygon_fault place (polygon_faults.Nesting fault) = hole_fault place fault
 
 -- the fault of a vertex of the polygon's exterior that is inside another polygon
 abbrev pub apart_fault : PolygonPlace → ApartFault → Fault

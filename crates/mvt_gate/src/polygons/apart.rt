@@ -1,5 +1,5 @@
 //! The first fault of the polygons of a feature where they are kept apart.
-ghost use Rattle.std.specs.Prelude.{◌≡◌, IfNone, IfOk, IfSome};
+ghost use Rattle.std.specs.Prelude.{◌≡◌, None, IfNone, IfOk, IfSome, OnOk};
 ghost use Rattle.mvt_rules.specs.Valid.{AreValidRingsBy};
 ghost use Rattle.mvt_fault.specs.declared.profile.Profile.TheVariants.{Feature};
 ghost use Rattle.mvt_sweep.specs.Rings.{rings_of, AreProperRings};
@@ -13,33 +13,36 @@ use mvt_feature::{FeatureCause, FeatureFault, check_feature, check_feature_quick
 use mvt_plane::{Count, Point};
 use std::alloc::{AllocError, Global};
 
-/// The first fault of the polygons of a feature, one after another, or quickly any meeting of their
-/// edges; or None where all of them are valid and apart. No ring has a fault of its own. The only error is
-/// that memory was refused.
-pub(super) fn feature_fault(
+/// Stores the first fault of the polygons of a feature, one after another, or quickly any meeting of
+/// their edges, in `found`, which is None before and stays so where all of them are valid and apart. No
+/// ring has a fault of its own. The only error is that memory was refused.
+pub(super) fn find_apart(
     alloc: Global,
     search: Search,
     rings: &[Vec<Point>],
     count: &mut Count,
     layer: usize,
     feature: usize,
-) -> Result<Option<Fault>, AllocError>
+    found: &mut Option<Fault>,
+) -> Result<(), AllocError>
+    requires nothing { found.old ≡ None }
     requires sound { ArePolygonRings (rings_of rings.now) }
     requires drawn { AreProperRings (rings_of rings.now) }
-    ensures valid { IfOk result (λ found.
-        IfNone found (AreValidRingsBy Feature (rings_of rings.now))) }
-    ensures found { IfOk result (λ found.
-        IfSome found (IsFirstOfRingsFor search Feature (rings_of rings.now) layer feature)) }
+    ensures valid { OnOk result (IfNone found.new
+        (AreValidRingsBy Feature (rings_of rings.now))) }
+    ensures found { OnOk result (IfSome found.new
+        (IsFirstOfRingsFor search Feature (rings_of rings.now) layer feature)) }
 {
-    let Some(found) = first_fault(alloc, search, rings, count)? else {
-        return Ok(None);
+    let Some(first) = first_fault(alloc, search, rings, count)? else {
+        return Ok(());
     };
     let place = PolygonPlace {
         layer,
         feature,
-        polygon: found.polygon,
+        polygon: first.polygon,
     };
-    Ok(Some(cause_fault(place, found.cause)))
+    *found = Some(cause_fault(place, first.cause));
+    Ok(())
 }
 
 /// The first polygon of a feature with a fault, or quickly any meeting.

@@ -31,6 +31,7 @@ use Rattle.mvt_tile.specs.Enough.{IsLike}
 use Rattle.mvt_tile.specs.declared.rules.summary.LayerSummary.{LayerSummary}
 use Rattle.mvt_tile.specs.declared.rules.tags.TagNeeds.{TagNeeds}
 use Rattle.mvt_tile.specs.declared.wire.scan.FieldScan.{FieldScan}
+use Rattle.mvt_tile.proofs.OneWalk.CutFields.{passes_cut}
 use Rattle.mvt_tile.proofs.Reading.ScannedFeatures.{FitsRule-scanned, nothing_found}
 use Rattle.mvt_tile.proofs.RuleFaults.FeatureFaults.{good_layer}
 use Rattle.mvt_tile.proofs.RuleFaults.FeatureScan.{fewer, IsLike-counted}
@@ -43,12 +44,12 @@ use Rattle.mvt_tile.proofs.WireFaults.Walking.{IsScanning, IsScanning-more, IsSc
 pub after_tags : AreAfterTags tells_none
 after_tags it layer feature fault never = absurd never
 
--- a message of one field, which a scan has passed
-pub one_field : (message : Message) (bytes : List ℕ) (from to : ℕ) → to ≤ length bytes → {old new : FieldScan} {read : Field × ℕ} → HasScanned message old [] → PassesNext message (take to bytes) from old new read → read.1 ≡ to
+-- a message of one field, which a scan has passed in all the bytes
+pub one_field : (message : Message) (bytes : List ℕ) (from to : ℕ) → to ≤ length bytes → {old new : FieldScan} {read : Field × ℕ} → HasScanned message old [] → PassesNext message bytes from old new read → read.1 ≡ to
     → (found : Option WireCause) → false ≡ is_some found → ((passed : List Entry) → HasScanned message new passed → FindsLeastCause (EndFault message passed to) found)
     → (cause : WireCause) → ¬ MessageFault message (take to bytes) from cause
 one_field message bytes from to within scanned next end found nothing finds =
-    nothing_found _ found nothing (IsScanning-whole bytes to found within end (IsScanning-more (record { passed = refl; passes = scanned }) next) finds)
+    nothing_found _ found nothing (IsScanning-whole bytes to found within end (IsScanning-more (record { passed = refl; passes = scanned }) (passes_cut message bytes from to within next end)) finds)
 
 -- one more message is clean, or the field holds none of them
 module _ (Clean : ℕ → Span → Type 0) (field_number : ℕ) (entries : List Entry) (entry : Entry) (so_far : AreClean Clean (spans_of field_number entries)) where

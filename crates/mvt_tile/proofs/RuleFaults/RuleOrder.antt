@@ -4,10 +4,10 @@ use Rattle.mvt_rules.specs.Tile.{TileRecord, IsTile}
 use Rattle.mvt_fault.specs.Place.{ComesFirst, IsLeast, place_of}
 use Rattle.mvt_rules.specs.Parts.TrueFaults.{BreaksRule, IsFaultOfLayers, OneFeatureHas, version}
 use Rattle.mvt_fault.specs.declared.fault.Fault.{Fault}
-use Rattle.mvt_tile.specs.FreeFaults.{IsLeastOr}
+use Rattle.mvt_tile.specs.FreeFaults.{IsLeastOr, of_least}
 use Rattle.mvt_tile.specs.RuleFaults.{Breaks, Frees, Keeps, BreaksAnyRule, KeepsRules, IsFaultOfFeature}
 use Rattle.mvt_tile.specs.Calls.FeatureRules.{AllSound, FindsInTile}
-use Rattle.mvt_tile.specs.Calls.PassedLayers.{passed, EndsLayers}
+use Rattle.mvt_tile.specs.Calls.PassedLayers.{passed, EndsLayers, StoresOfLayers}
 use Rattle.mvt_tile.specs.Calls.RuleFaults.{AreAfterTags}
 use Rattle.mvt_tile.specs.declared.rules.layer_rules.LayerRules.{LayerRules}
 use Rattle.mvt_fault.specs.declared.fault.Fault.TheVariants.{Version}
@@ -94,3 +94,40 @@ module _ (IsBroken : Breaks) (after_tags : AreAfterTags IsBroken) where
           → IfSome found (λ (first : Fault). (tile : TileRecord) → IsTile bytes tile → IsLeast (BreaksAnyRule IsBroken tile) first)
       least_fault None never finds = tt
       least_fault (Some fault) never finds = λ tile is. least_unless_free IsFree (BreaksAnyRule IsBroken tile) fault never (features_fault (Some fault) finds tile is)
+
+  -- With the fault of the layers in place of that of the features, if they have any.
+  module _ (bytes : List ℕ) (rules : LayerRules) (ends : (tile : TileRecord) → IsTile bytes tile → EndsLayers rules tile) (IsFree : Frees) (IsKept : Keeps) (before after : Option Fault)
+      (finds : (tile : TileRecord) → IsTile bytes tile → passed rules ≡ length tile.layers → FindsInTile IsFree IsBroken IsKept tile before) where
+    abbrev Kept : Type 0
+    Kept = (tile : TileRecord) → IsTile bytes tile → KeepsRules IsKept tile
+
+    abbrev IsFirst : Fault → Type 0
+    IsFirst first = (tile : TileRecord) → IsTile bytes tile → IsLeastOr IsFree (BreaksAnyRule IsBroken tile) first
+
+    abbrev IsAlone : Fault → Type 0
+    IsAlone first = (tile : TileRecord) → IsTile bytes tile → IsLeast (BreaksAnyRule IsBroken tile) first
+
+    pub stored_none : StoresOfLayers rules before after → IfNone after Kept
+    stored_none (inl it) = subst (λ (found : Option Fault). IfNone found Kept) (sym it.1) tt
+    stored_none (inr it) = subst (λ (found : Option Fault). IfNone found Kept) (sym it.0) (no_rule_broken bytes rules ends it.1 IsFree IsKept before finds)
+
+    pub stored_first : StoresOfLayers rules before after → IfSome after IsFirst
+    stored_first (inl it) = subst (λ (found : Option Fault). IfSome found IsFirst) (sym it.1) (λ tile is. of_least (least_of_layers tile it.0 (it.2 tile (ends tile is))))
+    stored_first (inr it) = subst (λ (found : Option Fault). IfSome found IsFirst) (sym it.0) (features_fault bytes rules ends it.1 IsFree IsKept before finds)
+
+    pub stored_least : ((fault : Fault) → ¬ IsFree fault) → StoresOfLayers rules before after → IfSome after IsAlone
+    stored_least never (inl it) = subst (λ (found : Option Fault). IfSome found IsAlone) (sym it.1) (λ tile is. least_of_layers tile it.0 (it.2 tile (ends tile is)))
+    stored_least never (inr it) = subst (λ (found : Option Fault). IfSome found IsAlone) (sym it.0) (least_fault bytes rules ends it.1 IsFree IsKept before never finds)
+
+-- what was stored of the layers alone
+module _ (rules : LayerRules) (tile : TileRecord) (ends : EndsLayers rules tile) (found : Option Fault) where
+  abbrev NoFault : Type 0
+  NoFault = (fault : Fault) → ¬ IsFaultOfLayers tile fault
+
+  pub layers_none : StoresOfLayers rules None found → IfNone found NoFault
+  layers_none (inl it) = subst (λ (first : Option Fault). IfNone first NoFault) (sym it.1) tt
+  layers_none (inr it) = subst (λ (first : Option Fault). IfNone first NoFault) (sym it.0) (it.1 tile ends)
+
+  pub layers_least : StoresOfLayers rules None found → IfSome found (IsLeast (IsFaultOfLayers tile))
+  layers_least (inl it) = subst (λ (first : Option Fault). IfSome first (IsLeast (IsFaultOfLayers tile))) (sym it.1) (it.2 tile ends)
+  layers_least (inr it) = subst (λ (first : Option Fault). IfSome first (IsLeast (IsFaultOfLayers tile))) (sym it.0) tt

@@ -1,6 +1,9 @@
 -- What is kept of the layers of a tile that were passed, to find the first that breaks a rule (Mapbox Vector Tile
 -- Specification 2.1, section 4.1).
-use Rattle.std.specs.Prelude.{◌≡◌, ℕ, ◌<◌, ◌⊎◌, true, false, List, length, slice_get, Some}
+use Rattle.std.specs.Prelude.{◌≡◌, ℕ, ◌<◌, ◌⊎◌, true, false, List, length, slice_get, Option, Some}
+use Rattle.mvt_fault.specs.Place.{IsLeast}
+use Rattle.mvt_fault.specs.declared.fault.Fault.{Fault}
+use Rattle.mvt_rules.specs.Parts.TrueFaults.{IsFaultOfLayers}
 use Rattle.mvt_rules.specs.Rules.{OtherVersion}
 use Rattle.mvt_rules.specs.Tile.{LayerRecord, TileRecord}
 use Rattle.mvt_tile.specs.declared.rules.layer_rules.LayerRules.{LayerRules}
@@ -31,3 +34,9 @@ pub record IsNextLayer (rules : LayerRules) (tile : TileRecord) (version : ℕ) 
 pub record EndsLayers (rules : LayerRules) (tile : TileRecord) : Type 0 where
   pub layers : ArePassed rules tile
   pub end : ((rules.other_version ≡ true) × OtherVersion tile (passed rules)) ⊎ ((rules.other_version ≡ false) × (length tile.layers ≡ passed rules))
+
+-- the first fault of the layers is stored, or they have none and nothing is
+abbrev pub StoresOfLayers : LayerRules → Option Fault → Option Fault → Type 0
+StoresOfLayers rules old new =
+    ((fault : Fault) × (new ≡ Some fault) × ((tile : TileRecord) → EndsLayers rules tile → IsLeast (IsFaultOfLayers tile) fault))
+    ⊎ ((new ≡ old) × ((tile : TileRecord) → EndsLayers rules tile → (fault : Fault) → ¬ IsFaultOfLayers tile fault))

@@ -13,9 +13,9 @@ use mvt_wire::{Message, Part};
 impl<'a> FeatureBytes<'a> {
     ghost use Rattle.mvt_tile.specs.FeatureBytes.{Encodes};
 
-    /// The feature that a part of the bytes holds, if it has no wire fault. Its fields are read once.
-    /// Those of an id, tags, a type and a geometry in this order, as most writers have them, have
-    /// paths of their own.
+    /// The feature that a part of the bytes holds, if it has no wire fault. Its fields are read once
+    /// where they are an id, tags, a type and a geometry in this order, as most writers have them;
+    /// else once more, from the first one on.
     #[inline(always)]
     pub(crate) fn scan(part: Part<'a>) -> Option<FeatureBytes<'a>>
         ensures wire { IfSome result (λ _. (ordinal : ℕ)

@@ -21,12 +21,11 @@ use std::alloc::{AllocError, Global};
 /// The faults of a tile by its rules, which are those of `rule_fault`: the first of each layer that
 /// has another version, or the name of an earlier layer; then the first of each feature that has a
 /// fault of its tags or by the further rule, or a free one of the rule, whatever its layer's version
-/// and name are. They stand
-/// in their order, so the first of them is that of `rule_fault`, and the list is empty where the
-/// tile keeps the rules. The bytes are read again: each layer once, or twice where a tag names a
-/// key or a value that the layer doesn't have. Its memory is for the faults, for what is kept of
-/// each layer, for one feature at a time, and for marks of keys. The only error is that memory was
-/// refused.
+/// and name are. They stand in their order, so the first of them is one that `rule_fault` may
+/// answer, and the list is empty where the tile keeps the rules. The bytes are read again: each layer
+/// once, or twice where a tag names a key or a value that the layer doesn't have. Its memory is for
+/// the faults, for what is kept of each layer, for one feature at a time, and for marks of keys. The
+/// only error is that memory was refused.
 pub fn rule_faults<R: FeatureRule>(
     alloc: Global,
     bytes: &[u8],

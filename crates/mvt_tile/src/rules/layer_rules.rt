@@ -1,11 +1,10 @@
 //! The rules on the versions and names of layers, kept layer by layer (Mapbox Vector Tile
 //! Specification 2.1, section 4.1).
-ghost use Rattle.std.specs.Prelude.{◌≡◌, ◌+◌, IfOk, IfNone, IfSome, IsFalse, IsTrue, true};
-ghost use Rattle.mvt_fault.specs.Place.{IsLeast};
+ghost use Rattle.std.specs.Prelude.{◌≡◌, ◌+◌, IfOk, IsFalse, IsTrue, Some, true};
 ghost use Rattle.mvt_rules.specs.Parts.TrueFaults.{IsFaultOfLayers};
 ghost use Rattle.mvt_fault.specs.declared.fault.Fault.{Fault};
 ghost use Rattle.mvt_rules.specs.Tile.{TileRecord};
-ghost use Rattle.mvt_tile.specs.Calls.PassedLayers.{passed, EndsLayers, PassesLayers, IsNextLayer};
+ghost use Rattle.mvt_tile.specs.Calls.PassedLayers.{passed, EndsLayers, PassesLayers, IsNextLayer, StoresOfLayers};
 
 use super::layer_names::LayerNames;
 use mvt_fault::Fault;
@@ -55,20 +54,48 @@ impl<'a> LayerRules<'a> {
         Ok(true)
     }
 
-    /// The first fault of the layers, all of which were passed, or all up to the first of another
-    /// version.
+    /// Whether the layers, all of which were passed, may have a fault.
     #[inline(always)]
-    pub(crate) fn fault(self) -> Option<Fault>
-        ensures none { IfNone result ((tile : TileRecord) → EndsLayers self.entry tile
-            → (fault : Fault) → ¬ IsFaultOfLayers tile fault) }
-        ensures least { IfSome result (λ fault. (tile : TileRecord) → EndsLayers self.entry tile
-            → IsLeast (IsFaultOfLayers tile) fault) }
+    pub(crate) fn has_fault(self) -> bool
+        ensures { IsFalse result → (tile : TileRecord) → EndsLayers self.entry tile
+            → (fault : Fault) → ¬ IsFaultOfLayers tile fault }
+    {
+        match self.names.first_repeated() {
+            Some(_) => true,
+            None => self.other_version,
+        }
+    }
+
+    /// Stores the first fault of the layers, all of which were passed, or all up to the first of another
+    /// version, in place of what was found before; where they have none, that stays.
+    #[inline(always)]
+    pub(crate) fn find_fault(self, found: &mut Option<Fault>)
+        ensures { StoresOfLayers self.entry found.old found.new }
     {
         let count = self.names.len();
         match self.names.first_repeated() {
-            Some((first, second)) => Some(Fault::Name { first, second }),
-            None if self.other_version => Some(Fault::Version { layer: count }),
-            None => None,
+            Some((first, second)) => store_name(found, first, second),
+            None if self.other_version => store_version(found, count),
+            None => {}
         }
     }
+}
+
+/// Stores that two layers have one name. (A fault has room of its own where it is made, which the
+/// caller doesn't pay for so.)
+#[cold]
+#[inline(never)]
+fn store_name(found: &mut Option<Fault>, first: usize, second: usize)
+    ensures { found.new ≡ Some (Fault.Name first second) }
+{
+    *found = Some(Fault::Name { first, second });
+}
+
+/// Stores that a layer has another version.
+#[cold]
+#[inline(never)]
+fn store_version(found: &mut Option<Fault>, layer: usize)
+    ensures { found.new ≡ Some (Fault.Version layer) }
+{
+    *found = Some(Fault::Version { layer });
 }

@@ -22,7 +22,9 @@ pub fn check_layers(alloc: Global, tile: &Tile<'_>) -> Result<Option<Fault>, All
 {
     let mut rules = LayerRules::new(alloc);
     note_layers(tile, &mut rules)?;
-    Ok(rules.fault())
+    let mut found = None;
+    rules.find_fault(&mut found);
+    Ok(found)
 }
 
 /// Passes the layers of a tile, up to the first that has another version than 2. No layer was passed

@@ -15,9 +15,9 @@ pub(crate) fn is_one_field(part: Part<'_>) -> bool
     ensures { IsTrue result → (ordinal : ℕ)
         → HasNone messages.Value part.entry.bytes.now ordinal (span_in part.entry) }
 {
-    let front = &part.bytes[..part.to];
+    // (in all bytes: a long varint is read without a loop where more bytes come after it)
     let mut scan = FieldScan::new();
-    let Some((_, next)) = scan.pass_usual::<6>(Message::Value, front, part.from) else {
+    let Some((_, next)) = scan.pass_usual::<6>(Message::Value, part.bytes, part.from) else {
         return false;
     };
     if next != part.to || scan.end_fault(Message::Value, part.to).is_some() {

@@ -10,8 +10,8 @@ use mvt_wire::{
 
 impl FieldScan {
     /// Passes the field at an offset if its key has one byte, it has no fault, and a varint is
-    /// after its key, as is with nearly all fields. Returns the field and the offset after it;
-    /// where it returns None, nothing is passed.
+    /// after its key, as is with nearly all fields, or of a value four or eight bytes. Returns the
+    /// field and the offset after it; where it returns None, nothing is passed.
     ///
     /// A key is eight times the field's number, and the wire type. Each key that is usual in some
     /// message has an arm of its own, in which both are constants, and so is the rule for the

@@ -1,4 +1,4 @@
-use Rattle.std.proofs.Common.{◌≡◌, ◌⊎◌, inl, inr, true}
+use Rattle.std.proofs.Common.{◌≡◌, ◌⊎◌, inl, inr, true, sym}
 use Rattle.std.proofs.lemmas.Bool.{both_ways}
 use Rattle.mvt_fault.specs.declared.profile.Profile.{Profile}
 use Rattle.mvt_rules.specs.Parts.Geometry.{IsFaultOfGeometryBy}
@@ -6,45 +6,61 @@ use Rattle.mvt_rules.specs.Tile.{FeatureRecord}
 use Rattle.mvt_rules.specs.Valid.{IsValidGeometryBy}
 use Rattle.mvt_tile.proofs.RuleFaults.Seen.{nothing_seen}
 use Rattle.mvt_gate.proofs.SeenFigures.{seen_sound}
+use Rattle.mvt_gate.proofs.Stored.{none_stored, some_stored, where_nothing}
 use Rattle.mvt_gate.proofs.Verdicts.{valid_without_fault}
 use Rattle.mvt_gate.proofs.first_walk.first_walk.Goals as goal
 
 pub returns-then-figures : goal.returns-then-figures
 returns-then-figures c = (
-  c.in_ok-passes_one_walk.ensures.wire c.if-branch.true,
-  λ profile. nothing_seen (IsFaultOfGeometryBy profile) (IsValidGeometryBy profile) c.args.bytes.now c.nothing.result c.nothing.ensures,
+  c.requires,
+  (
+    c.in_ok-passes_one_walk.ensures.wire c.if-branch.true,
+    λ profile. nothing_seen (IsFaultOfGeometryBy profile) (IsValidGeometryBy profile) c.args.bytes.now c.nothing.result c.nothing.ensures,
+  ),
 )
 
 pub returns-then-branch : goal.returns-then-branch
-returns-then-branch c = λ profile.
-    valid_without_fault profile c.args.bytes.now (c.in_ok-passes_one_walk.ensures.wire c.if-branch.true)
-    (λ tile is.
-    let kept = c.in_ok-passes_one_walk.ensures.rules c.if-branch.true tile is in
-    record {
-      parts = kept.parts;
-      features = λ layer feature layer_record it there. elim (kept.features layer feature layer_record it there) [
-        | inl valid ↦ valid profile
-        | inr some ↦ absurd (both_ways _ c.if-figures.false some)
-      ];
-    })
+returns-then-branch c = (
+  c.requires,
+  λ profile.
+      valid_without_fault profile c.args.bytes.now (c.in_ok-passes_one_walk.ensures.wire c.if-branch.true)
+      (λ tile is.
+      let kept = c.in_ok-passes_one_walk.ensures.rules c.if-branch.true tile is in
+      record {
+        parts = kept.parts;
+        features = λ layer feature layer_record it there. elim (kept.features layer feature layer_record it there) [
+          | inl valid ↦ valid profile
+          | inr some ↦ absurd (both_ways _ c.if-figures.false some)
+        ];
+      }),
+)
 
-pub wire_fault_after-requires : goal.wire_fault_after-requires
-wire_fault_after-requires c = c.in_ok-passes_one_walk.ensures.passed c.if-branch.false
+pub find_wire_fault-requires : goal.find_wire_fault-requires
+find_wire_fault-requires c = c.in_ok-passes_one_walk.ensures.passed c.if-branch.false
+
+pub returns-then-is_some : goal.returns-then-is_some
+returns-then-is_some c = some_stored c.find_wire_fault.new.found (sym c.if-is_some.ensures) c.find_wire_fault.ensures.least
 
 pub returns-then-figures-2 : goal.returns-then-figures-2
 returns-then-figures-2 c = (
-  c.in_default.ensures.none,
-  λ profile. nothing_seen (IsFaultOfGeometryBy profile) (IsValidGeometryBy profile) c.args.bytes.now c.nothing-then-figures-2.result c.nothing-then-figures-2.ensures,
+  none_stored c.find_wire_fault.new.found (sym c.if-is_some.ensures),
+  (
+    where_nothing c.find_wire_fault.new.found (sym c.if-is_some.ensures) c.find_wire_fault.ensures.none,
+    λ profile. nothing_seen (IsFaultOfGeometryBy profile) (IsValidGeometryBy profile) c.args.bytes.now c.nothing-then-figures-2.result c.nothing-then-figures-2.ensures,
+  ),
 )
 
 pub returns : goal.returns
 returns c = (
-  c.in_default.ensures.none,
-  λ profile.
-      seen_sound profile (λ (it : FeatureRecord). ((other : Profile) → IsValidGeometryBy other it) ⊎ (c.passes_one_walk.new.test.has_polygons ≡ true))
-      (λ it kept. elim kept [
-        | inl valid ↦ valid profile
-        | inr some ↦ absurd (both_ways _ c.if-figures-2.false some)
-      ])
-      c.args.bytes.now c.passes_one_walk.new.seen (c.in_ok-passes_one_walk.ensures.sound c.if-branch.false),
+  none_stored c.find_wire_fault.new.found (sym c.if-is_some.ensures),
+  (
+    where_nothing c.find_wire_fault.new.found (sym c.if-is_some.ensures) c.find_wire_fault.ensures.none,
+    λ profile.
+        seen_sound profile (λ (it : FeatureRecord). ((other : Profile) → IsValidGeometryBy other it) ⊎ (c.passes_one_walk.new.test.has_polygons ≡ true))
+        (λ it kept. elim kept [
+          | inl valid ↦ valid profile
+          | inr some ↦ absurd (both_ways _ c.if-figures-2.false some)
+        ])
+        c.args.bytes.now c.passes_one_walk.new.seen (c.in_ok-passes_one_walk.ensures.sound c.if-branch.false),
+  ),
 )

@@ -6,22 +6,21 @@ use Rattle.mvt_tile.specs.FeatureBytes.{Encodes}
 use Rattle.mvt_tile.specs.View.{kind_number}
 use Rattle.mvt_wire.proofs.NothingFound.{IfNone-any}
 use Rattle.mvt_rules.specs.Tile.{FeatureRecord}
-use Rattle.mvt_gate.proofs.FeatureGeometries.{least_by_commands, other_kind, valid_by_figure}
+use Rattle.mvt_gate.proofs.FeatureGeometries.{least_by_commands, other_kind, valid_by_figure, where_none}
 use Rattle.mvt_gate.proofs.geometry.GeometryRule.find_fault_by.Goals as goal
 
-pub returns-in_default-2-clause-none : goal.returns-in_default-2-clause-none
-returns-in_default-2-clause-none c =
-    let kept = rw c.in_default-2.is at c.in_ok-fault-in-Polygon.ensures.kept in
-    IfNone-any c.args.found.now (λ it encodes fault. geometry_kept c.args.profile it c.args.layer c.args.ordinal fault (kept it encodes))
+pub returns-in-Polygon-clause-none : goal.returns-in-Polygon-clause-none
+returns-in-Polygon-clause-none c =
+    where_none _ _ c.find_in_polygons.result c.find_in_polygons.new.found (λ kept it encodes fault. geometry_kept c.args.profile it c.args.layer c.args.ordinal fault (kept it encodes)) c.find_in_polygons.ensures.kept
 
-pub returns-in-Some-command_fault : goal.returns-in-Some-command_fault
-returns-in-Some-command_fault c = record {
+pub returns-in-Some : goal.returns-in-Some
+returns-in-Some c = rw c.store_command.ensures (record {
   none = tt;
   kept = tt;
   found = λ it encodes.
-      least_by_commands c.args.search c.args.profile it (kind_number c.kind.result) c.in-Some-command_fault.code c.in-Some-command_fault.index c.args.layer c.args.ordinal (sym (c.kind.ensures it encodes))
-      (c.in-Some-command_fault.ensures.fault it.geometry (c.geometry.ensures.all it encodes));
-}
+      least_by_commands c.args.search c.args.profile it (kind_number c.kind.result) c.in-Some.code c.in-Some.index c.args.layer c.args.ordinal (sym (c.kind.ensures it encodes))
+      (c.in-Some.ensures.fault it.geometry (c.geometry.ensures.all it encodes));
+})
 
 pub returns-in_default-command_fault : goal.returns-in_default-command_fault
 returns-in_default-command_fault c =

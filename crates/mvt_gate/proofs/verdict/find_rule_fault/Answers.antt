@@ -1,6 +1,6 @@
 use Rattle.mvt_fault.specs.declared.profile.Profile.TheVariants.{Polygon, Feature}
 use Rattle.mvt_gate.proofs.ValidGeometries.{after_tags}
-use Rattle.mvt_gate.proofs.verdict.fault_of_rules.Goals as goal
+use Rattle.mvt_gate.proofs.verdict.find_rule_fault.Goals as goal
 
 pub rule_fault_after-requires-clause-after_tags : goal.rule_fault_after-requires-clause-after_tags
 rule_fault_after-requires-clause-after_tags c = after_tags Polygon
