@@ -140,7 +140,8 @@ def test_what_is_packed_is_sent_to_the_byte_and_judged_unpacked(encoding: str, p
 def test_what_is_packed_wrongly_is_refused(encoding: str, packed: bytes) -> None:
     wrong = [packed[:at] for at in range(1, len(packed))] + [packed + b"more"]
     if encoding == "gzip":
-        wrong += [packed[:-8] + bytes([packed[-8] ^ 1]) + packed[-7:], packed[:-1] + b"\x01"]
+        # (a wrong sum, a wrong length; two members, the second of a tile or of nothing)
+        wrong += [packed[:-8] + bytes([packed[-8] ^ 1]) + packed[-7:], packed[:-1] + b"\x01", packed + packed, packed + gzip.compress(b"")]
     with upstream(lambda asked: tile(wrong[int(asked.target.split("/")[3])], Content_Encoding=encoding)) as server, proxy(server.url, "--mode", "refuse") as gate:
         for at in range(len(wrong)):
             answer = gate.get(f"/1/2/{at}", {"Accept-Encoding": "gzip, deflate"})

@@ -96,8 +96,10 @@ func TestWhatIsPackedIsUnpackedWhole(t *testing.T) {
 				t.Error(encoding, at, err)
 			}
 		}
-		if _, err := unpack(append(packed, "more"...), encoding); encoding != "" && !errors.Is(err, ErrPacking) {
-			t.Error(encoding, err)
+		for _, more := range [][]byte{packed, []byte("more")} {
+			if _, err := unpack(bytes.Join([][]byte{packed, more}, nil), encoding); encoding != "" && !errors.Is(err, ErrPacking) {
+				t.Error(encoding, err)
+			}
 		}
 	}
 }

@@ -47,7 +47,20 @@ func ungzipped(source *bytes.Reader, read func(io.Reader) error) error {
 	if unpacking.Reset(source) != nil {
 		return ErrPacking
 	}
-	return read(reader{unpacking})
+	// (of several members browsers show the first one, which isn't what would be judged)
+	unpacking.Multistream(false)
+	if err := read(reader{unpacking}); err != nil {
+		return err
+	}
+	return nothingLeft(source)
+}
+
+// nothingLeft says whether packed bytes end where what was unpacked of them does.
+func nothingLeft(source *bytes.Reader) error {
+	if source.Len() > 0 {
+		return ErrPacking
+	}
+	return nil
 }
 
 // undeflated reads zlib's format, which the name means, and bare deflate, which some servers send. (It is Go's own: the faster one
@@ -67,10 +80,7 @@ func undeflated(source *bytes.Reader, packed []byte, read func(io.Reader) error)
 	if err := read(reader{unpacking}); err != nil {
 		return err
 	}
-	if source.Len() > 0 {
-		return ErrPacking
-	}
-	return nil
+	return nothingLeft(source)
 }
 
 // isZlib says whether the two bytes of zlib's head are there, by RFC 1950.
