@@ -7,8 +7,8 @@
 //
 // A tile is handed over uncompressed: bytes of gzip get the fault 104. The library reads the slice in place, so nobody may
 // write to it while a call runs. No call keeps anything, so any number of goroutines may call at once; each call holds a thread
-// of the system to its end, and nothing can interrupt it. A call for a tile of n bytes takes memory for a few times n, outside
-// of Go's heap, and a list also for its faults.
+// of the system to its end, and nothing can interrupt it. A call for a tile of n bytes takes up to 31 times n of memory,
+// outside of Go's heap, and a list also for its faults.
 //
 // # Linking
 //

@@ -29,7 +29,7 @@ func CheckQuickly(tile []byte, profile Profile) error {
 	return judged(checkQuickly, tile, profile)
 }
 
-// CheckNotEmpty is [Check] of a tile that has to have bytes. No bytes are a valid tile, and also what a failed read leaves: where
+// CheckNotEmpty is [Check] of a tile that has to have bytes. Zero bytes are a valid tile, and also what a failed read leaves: where
 // that may be, they are [ErrEmpty] here.
 func CheckNotEmpty(tile []byte, profile Profile) error {
 	if len(tile) == 0 {

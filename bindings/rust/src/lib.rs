@@ -12,7 +12,7 @@
 //! ```
 //!
 //! A tile is handed over uncompressed: bytes of gzip get the fault 104. No call keeps anything, so any number of threads
-//! may call at once. A call for a tile of n bytes takes memory for a few times n, and a list also for its faults; where
+//! may call at once. A call for a tile of n bytes takes up to 31 times n of memory, and a list also for its faults; where
 //! that is refused, it says so, and nothing is known of the tile.
 //!
 //! # Linking
@@ -118,7 +118,7 @@ pub fn faults_quickly(tile: &[u8], profile: Profile) -> Result<Vec<Fault>, OutOf
     list(tile, profile, "mvtgate_faults_quickly", ffi::faults_quickly)
 }
 
-/// The same of a tile that has to have bytes. No bytes are a valid tile, and also what a failed read leaves: where that may
+/// The same of a tile that has to have bytes. Zero bytes are a valid tile, and also what a failed read leaves: where that may
 /// be, they are an error here.
 ///
 /// ```

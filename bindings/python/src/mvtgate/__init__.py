@@ -84,7 +84,7 @@ def _number_of(profile: Profile) -> int:
 def check(tile: ReadableBuffer, profile: Profile = Profile.POLYGON, *, not_empty: bool = False, quick: bool = False) -> Union[Fault, None]:
     """None for a valid tile, else its first fault in the order that docs/SPECIFICATION.md of the repository gives.
 
-    No bytes are a valid tile, and also what a failed read leaves: with `not_empty` they raise EmptyTile.
+    Zero bytes are a valid tile, and also what a failed read leaves: with `not_empty` they raise EmptyTile.
 
     With `quick` the time has a bound by both profiles, which is for whoever judges tiles of others. By
     Profile.FEATURE the fault may then be any meeting of the same feature, where edges of that feature meet. It is true all the
