@@ -1,6 +1,7 @@
 pub mod Courses
 pub mod Parameters
 pub mod Paths
+pub mod Reaches
 pub mod ReadGeometries
 pub mod Sources
 pub mod SpellingFaults

@@ -2,3 +2,4 @@
 pub mod Cursor
 pub mod Geometry
 pub mod Given
+pub mod Reach

@@ -6,6 +6,7 @@ mod checking;
 mod commands;
 mod drawing;
 mod figure;
+mod passing;
 mod reading;
 mod ring_buffer;
 mod sink;

@@ -38,7 +38,7 @@ pub trait NumberSource {
 }
 
 /// The numbers of a list.
-#[derive(Drop)]
+#[derive(Clone, Copy)]
 pub struct ListedNumbers<'a> {
     rest: &'a [u32],
 }

@@ -16,7 +16,7 @@ use crate::varint::whole_varint;
 /// The numbers that the fields of one number state in a message that is known to be whole, with no
 /// fault of these numbers (Protocol Buffers encoding, "Packed Repeated Fields"). They are decoded
 /// where they stand.
-#[derive(Drop)]
+#[derive(Clone, Copy)]
 pub struct WholeNumbers<'a> {
     /// The bytes up to the message's end.
     bytes: &'a [u8],

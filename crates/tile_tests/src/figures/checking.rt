@@ -122,6 +122,32 @@ fn pairs_of_parameters(rt: HostRuntime) {
     );
 }
 
+// Lines whose parameters together lead further than any coordinate, though each position is in the
+// range; one that leaves it by its last step; and a second line that does by its first.
+#[test]
+fn far_lines(rt: HostRuntime) {
+    // 2^30 to the right, and as far back
+    let (right, left) = (2_147_483_648, 2_147_483_647);
+    assert!(rt; draw(Kind::LineString, &[9, right, 0, 18, left, 0, right, 0]));
+    assert!(rt; draw(Kind::LineString, &[9, right, right, 10, left, left, 9, left, left, 10, 2, 0]));
+    assert!(rt;
+        fail(
+            Kind::LineString,
+            &[9, right, 0, 18, left, 0, left + 2, 0],
+            CommandCode::OutOfBounds,
+            6
+        )
+    );
+    assert!(rt;
+        fail(
+            Kind::LineString,
+            &[9, 0, right, 10, 2, left, 9, right, 2],
+            CommandCode::OutOfBounds,
+            7
+        )
+    );
+}
+
 // The cursor stays at a ring's last position when the ring is closed, here at the greatest x: from
 // the ring's start, the next step would be in range.
 #[test]
