@@ -22,7 +22,8 @@ use Rattle.mvt_rules.specs.Tile.{FeatureRecord}
 use Rattle.mvt_gate.proofs.FeatureFaults.{least_of_found, place_in, valid_of_none}
 use Rattle.mvt_sweep.specs.Meeting.{first_of, second_of}
 use Rattle.mvt_gate.proofs.PolygonParts.{meeting_of_its_edge}
-use Rattle.mvt_gate.specs.Calls.Polygons.{IsFeatureAnswerFor, IsFirstOfRingsFor, cause_fault}
+use Rattle.mvt_gate.specs.Calls.Polygons.{IsFeatureAnswerFor, cause_fault}
+use Rattle.mvt_gate.specs.Quick.{IsFirstOfRingsFor}
 use Rattle.mvt_gate.specs.declared.polygons.PolygonPlace.{PolygonPlace}
 use Rattle.mvt_gate.specs.declared.quick.Search.{Search}
 use Rattle.mvt_gate.specs.declared.quick.Search.TheVariants.{Least, Quick}

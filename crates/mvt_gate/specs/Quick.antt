@@ -2,6 +2,7 @@
 -- feature meet wrongly, any meeting of them.
 use Rattle.std.specs.Prelude.{ℕ, List}
 use Rattle.mvt_rules.specs.Shows.{ShowsBy}
+use Rattle.mvt_rules.specs.Parts.Geometry.{IsFaultOfGeometryBy}
 use Rattle.mvt_rules.specs.Parts.Rings.{AreAllApart}
 use Rattle.mvt_fault.specs.declared.fault.Fault.{Fault}
 use Rattle.mvt_fault.specs.declared.fault.Fault.TheVariants.{Meeting}
@@ -39,3 +40,8 @@ IsQuickFaultBy profile bytes = IsLeastOr (IsFreeBy profile) (ShowsBy profile byt
 abbrev pub IsFreeFor : Search → Profile → Fault → Type 0
 IsFreeFor Least profile = λ fault. ⊥
 IsFreeFor Quick profile = IsFreeBy profile
+
+-- of a feature that has these rings, and these ordinals, the fault is the first, or one that may be named in its place
+abbrev pub IsFirstOfRingsFor : Search → Profile → List (List Position) → ℕ → ℕ → Fault → Type 0
+IsFirstOfRingsFor search profile rings layer feature fault =
+    (feature_record : FeatureRecord) → HasRings feature_record.kind feature_record.geometry rings → IsLeastOr (IsFreeFor search profile) (IsFaultOfGeometryBy profile feature_record layer feature) fault

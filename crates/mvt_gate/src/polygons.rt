@@ -9,7 +9,8 @@ ghost use Rattle.mvt_plane.specs.Commands.Figure.{polygon};
 ghost use Rattle.mvt_plane.specs.FeatureGeometry.{HasRings, type_number};
 ghost use Rattle.mvt_sweep.specs.Rings.{rings_of, AreProperRings};
 ghost use Rattle.mvt_rules.specs.Ring.{ArePolygonRings};
-ghost use Rattle.mvt_gate.specs.Calls.Polygons.{IsFirstOfRings, IsFirstOfRingsFor, AreValidBefore, hole_fault, meeting_fault, polygon_fault};
+ghost use Rattle.mvt_gate.specs.Calls.Polygons.{IsFirstOfRings, AreValidBefore, hole_fault, meeting_fault, polygon_fault};
+ghost use Rattle.mvt_gate.specs.Quick.{IsFirstOfRingsFor};
 
 mod apart;
 

@@ -1,6 +1,6 @@
 -- The places of the features of faults, found one after another.
-use Rattle.std.proofs.Common.{◌≡◌, ℕ, ◌+◌, ◌<◌, ◌≤◌, inl, inr, List, [], ◌∷◌, ◌++◌, length, slice_get, Some, refl, sym, ◌∙◌, ap, subst, arith, length-append}
-use Rattle.std.proofs.lemmas.Option.{none-some, same_Some, slice_get_within}
+use Rattle.std.proofs.Common.{◌≡◌, ℕ, ◌+◌, ◌<◌, ◌≤◌, inl, inr, List, [], ◌∷◌, ◌++◌, length, slice_get, Some, sym, ◌∙◌, ap, subst, arith, length-append}
+use Rattle.std.proofs.lemmas.Option.{slice_get_within}
 use Rattle.mvt_fault.specs.declared.fault.Fault.{Fault}
 use Rattle.mvt_wire.proofs.Parts.EmbeddedSpans.{slice_get-push}
 use Rattle.mvt_mender.specs.Calls.Features.{ArePlacesOf, IsOfPlace, MayBeMended}
@@ -11,9 +11,6 @@ pub record ArePlacesTo (faults : List Fault) (count : ℕ) (places : List Featur
   pub size : length places ≡ count
   pub within : count ≤ length faults
   pub each : (at : ℕ) (place : FeaturePlace) → slice_get places at ≡ Some place → (fault : Fault) × (slice_get faults at ≡ Some fault) × MayBeMended fault × IsOfPlace place fault
-
-pub places_none : (faults : List Fault) → ArePlacesTo faults 0 []
-places_none faults = record { size = refl; within = omega arith; each = λ at place here. absurd (none-some place here) }
 
 -- one more has
 pub places_more : (faults : List Fault) (count : ℕ) (places longer : List FeaturePlace) (fault : Fault) (place : FeaturePlace) → ArePlacesTo faults count places → count < length faults
@@ -26,14 +23,6 @@ places_more faults count places longer fault place so_far less here may at_place
     | inr (last, same) ↦ (fault, ap (slice_get faults) (last ∙ so_far.size) ∙ here, may, subst (λ (p : FeaturePlace). IsOfPlace p fault) (sym same) at_place)
   ];
 })
-
--- the next fault isn't mended, whatever its feature is
-pub places_stop : (faults : List Fault) (count : ℕ) (places : List FeaturePlace) (fault : Fault) → ArePlacesTo faults count places → slice_get faults count ≡ Some fault → ¬ MayBeMended fault → ArePlacesOf faults places
-places_stop faults count places fault so_far here other = record {
-  few = omega (arith, so_far.size, so_far.within);
-  each = so_far.each;
-  stop = λ it there. subst (λ (f : Fault). ¬ MayBeMended f) (same_Some fault it (sym here ∙ ap (slice_get faults) (sym so_far.size) ∙ there)) other;
-}
 
 -- there are no more faults
 pub places_all : (faults : List Fault) (count : ℕ) (places : List FeaturePlace) → ArePlacesTo faults count places → length faults ≤ count → ArePlacesOf faults places

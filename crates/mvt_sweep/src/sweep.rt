@@ -29,7 +29,6 @@ mod vertices;
 use crate::sweep::chains::Chains;
 use crate::sweep::notes::Notes;
 use crate::sweep::step::{Step, go_over};
-pub(crate) use heights::heights_apart;
 pub(crate) use listing::{FEW_VERTICES, FewVertices, list_few, list_of};
 use mvt_plane::Count;
 use mvt_status::Status;

@@ -29,10 +29,6 @@ no_lands cells lands is = record {
   own = λ polygon below. absurd (omega arith);
 }
 
--- the land of a cell is one of the polygons
-pub land_within : (cells lands : List ℕ) (count polygon : ℕ) → AreCells (length cells) cells → AreLands cells count lands → polygon < length cells → land_of cells lands polygon < length cells
-land_within cells lands count polygon known so_far within = so_far.known.below (get_or cells polygon 0) (known.below polygon within)
-
 -- the next polygon has the land that its cell has
 pub land_left : (cells lands : List ℕ) (polygon : ℕ) → AreLands cells polygon lands → get_or cells (land_of cells lands polygon) 0 ≡ get_or cells polygon 0 → AreLands cells (polygon + 1) lands
 land_left cells lands polygon so_far own = record {

@@ -152,10 +152,3 @@ counted_moved rings all polygons places numbers before after None same counted =
 counted_moved rings all polygons places numbers before after (Some fault) same counted =
     moved_cause places numbers (vertex_count (part_of rings (rings_in (fault_moved polygons places numbers fault)))) before after fault.cause
     (subst (λ (part : List (List Position)). IsCountedCause (vertex_count part) before after fault.cause) (sym same) counted)
-
--- Results
-
--- what follows of two answers' facts
-pub if_ok_both : {A E : Type 0} (result : Result A E) (P Q R : A → Type 0) → ((answer : A) → P answer → Q answer → R answer) → IfOk result P → IfOk result Q → IfOk result R
-if_ok_both (Ok answer) P Q R follows one other = follows answer one other
-if_ok_both (Err error) P Q R follows one other = tt

@@ -1,9 +1,8 @@
 -- The work of sweeps over some of a feature's rings, and over the others.
-use Rattle.std.proofs.Common.{◌≡◌, ℕ, zero, suc, ◌+◌, ◌-◌, ◌*◌, ◌<◌, ◌≤◌, inl, inr, Bool, true, false, cond, List, [], ◌∷◌, ◌++◌, length, take, drop, slice_range, slice_index_or, Vec, refl, ◌∙◌, ap, arith}
+use Rattle.std.proofs.Common.{◌≡◌, ℕ, zero, suc, ◌+◌, ◌-◌, ◌*◌, ◌<◌, ◌≤◌, inl, inr, Bool, true, false, cond, List, [], ◌∷◌, ◌++◌, length, take, drop, slice_index_or, refl, ◌∙◌, ap, arith}
 use Rattle.std.proofs.Math.Nat.{mul-le-mul}
 use Rattle.std.proofs.Math.Seq.{take-add}
 use Rattle.std.proofs.lemmas.Bool.{cases_lt}
-use Rattle.std.specs.declared.alloc.Global.{Global}
 use Rattle.mvt_plane.specs.Counted.{Counted}
 use Rattle.mvt_rules.specs.Parts.Rings.{part_of}
 use Rattle.mvt_plane.specs.Position.{Position}
@@ -14,7 +13,6 @@ use Rattle.mvt_feature.specs.Calls.FeatureParts.{listed_at}
 use Rattle.mvt_feature.specs.Calls.Gathered.{gathered_rings}
 use Rattle.mvt_rules.specs.Ring.{ArePolygonRings}
 use Rattle.mvt_polygon.specs.Polygons.{ArePolygons}
-use Rattle.mvt_sweep.specs.Rings.{rings_of}
 use Rattle.mvt_status.proofs.BinaryDigits.{no_more_digits}
 use Rattle.mvt_status.specs.Counts.{bits, raised}
 use Rattle.mvt_polygon.proofs.ApartFaults.{rings_listed}
@@ -128,21 +126,3 @@ one_sweep vertices before after work = work_within (omega arith) (omega arith) (
 -- probes of both
 pub raised_then : (alone shared vertices before between after : ℕ) → vertices ≤ alone + shared → raised alone before ≤ between → raised shared between ≤ after → raised vertices before ≤ after
 raised_then alone shared vertices before between after within first second = omega arith
-
--- Rings, as the code reads them
-
--- the first ones
-map_take : (count : ℕ) (rings : List (Vec Position Global)) → rings_of (take count rings) ≡ take count (rings_of rings)
-map_take zero rings = refl
-map_take (suc count) [] = refl
-map_take (suc count) (ring ∷ rings) = ap (λ rest. ring.items ∷ rest) (map_take count rings)
-
--- those after them
-map_drop : (count : ℕ) (rings : List (Vec Position Global)) → rings_of (drop count rings) ≡ drop count (rings_of rings)
-map_drop zero rings = refl
-map_drop (suc count) [] = refl
-map_drop (suc count) (ring ∷ rings) = map_drop count rings
-
--- those of a part
-pub rings_of_part : (rings : List (Vec Position Global)) (from to : ℕ) → rings_of (slice_range rings from to) ≡ slice_range (rings_of rings) from to
-rings_of_part rings from to = map_take (to - from) (drop from rings) ∙ ap (take (to - from)) (map_drop from rings)

@@ -21,9 +21,7 @@ use Rattle.mvt_polygon.specs.declared.polygon.PolygonFault.{PolygonFault}
 use Rattle.mvt_polygon.specs.declared.polygon.PolygonFault.TheVariants as polygon_faults
 use Rattle.mvt_polygon.specs.declared.nesting.NestFault.{NestFault}
 use Rattle.mvt_polygon.specs.declared.nesting.NestFault.TheVariants as nest_faults
-use Rattle.mvt_tile.specs.FreeFaults.{IsLeastOr}
 use Rattle.mvt_rules.specs.Tile.{FeatureRecord}
-use Rattle.mvt_gate.specs.Quick.{IsFreeFor}
 use Rattle.mvt_gate.specs.declared.polygons.PolygonPlace.{PolygonPlace}
 use Rattle.mvt_gate.specs.declared.quick.Search.{Search}
 use Rattle.mvt_gate.specs.declared.quick.Search.TheVariants.{Least, Quick}
@@ -34,11 +32,6 @@ IsFirstOfRings profile rings layer feature fault =
     (feature_record : FeatureRecord) → HasRings feature_record.kind feature_record.geometry rings → IsLeast (IsFaultOfGeometryBy profile feature_record layer feature) fault
 
 -- By a search
-
--- of a feature that has these rings, and these ordinals, the fault is the first, or one that may be named in its place
-abbrev pub IsFirstOfRingsFor : Search → Profile → List (List Position) → ℕ → ℕ → Fault → Type 0
-IsFirstOfRingsFor search profile rings layer feature fault =
-    (feature_record : FeatureRecord) → HasRings feature_record.kind feature_record.geometry rings → IsLeastOr (IsFreeFor search profile) (IsFaultOfGeometryBy profile feature_record layer feature) fault
 
 -- the first polygon with a fault is found, or a meeting, or none where no polygon has a fault
 abbrev pub IsFeatureAnswerFor : Search → List (List Position) → Option FeatureFault → Type 0

@@ -4,7 +4,8 @@ ghost use Rattle.mvt_rules.specs.Valid.{AreValidRingsBy};
 ghost use Rattle.mvt_fault.specs.declared.profile.Profile.TheVariants.{Feature};
 ghost use Rattle.mvt_sweep.specs.Rings.{rings_of, AreProperRings};
 ghost use Rattle.mvt_rules.specs.Ring.{ArePolygonRings};
-ghost use Rattle.mvt_gate.specs.Calls.Polygons.{IsFeatureAnswerFor, IsFirstOfRingsFor, cause_fault};
+ghost use Rattle.mvt_gate.specs.Calls.Polygons.{IsFeatureAnswerFor, cause_fault};
+ghost use Rattle.mvt_gate.specs.Quick.{IsFirstOfRingsFor};
 
 use super::{PolygonPlace, hole_fault, meeting_fault};
 use crate::quick::Search;

@@ -5,8 +5,7 @@ use Rattle.mvt_rules.specs.Polygon.{PolygonRings}
 use Rattle.mvt_plane.specs.Position.{Position}
 use Rattle.mvt_plane.specs.Geometry.RationalPoint.{RationalPoint}
 use Rattle.mvt_fault.specs.declared.ring.RingEdge.{RingEdge}
-use Rattle.mvt_rules.specs.Tile.{FeatureRecord, LayerRecord, TileRecord}
-use Rattle.mvt_rules.specs.Valid.{IsValidPolygonBy, AreValidRingsBy, IsValidGeometryBy, IsValidFeatureBy, IsValidTileBy}
+use Rattle.mvt_rules.specs.Valid.{IsValidPolygonBy, AreValidRingsBy}
 use Rattle.mvt_rules.specs.PolygonFault.{IsMeetingBy}
 
 abbrev pub IsValidPolygon : List (List Position) → PolygonRings → Type 0
@@ -14,15 +13,6 @@ IsValidPolygon = IsValidPolygonBy Polygon
 
 abbrev pub AreValidRings : List (List Position) → Type 0
 AreValidRings = AreValidRingsBy Polygon
-
-abbrev pub IsValidGeometry : FeatureRecord → Type 0
-IsValidGeometry = IsValidGeometryBy Polygon
-
-abbrev pub IsValidFeature : LayerRecord → FeatureRecord → Type 0
-IsValidFeature = IsValidFeatureBy Polygon
-
-abbrev pub IsValidTile : TileRecord → Type 0
-IsValidTile = IsValidTileBy Polygon
 
 -- both are of the polygon
 abbrev pub IsMeeting : List (List Position) → ℕ → RingEdge → RingEdge → RationalPoint → Type 0

@@ -8,7 +8,6 @@ use Rattle.mvt_fault.specs.declared.command.CommandCode.{CommandCode}
 use Rattle.mvt_fault.specs.declared.fault.Fault.{Fault}
 use Rattle.mvt_fault.specs.declared.fault.Fault.TheVariants.{Command, Ring, Meeting, Outside, HoleInHole, InPolygon}
 use Rattle.mvt_fault.specs.declared.profile.Profile.{Profile}
-use Rattle.mvt_fault.specs.declared.profile.Profile.TheVariants.{Polygon}
 use Rattle.mvt_fault.specs.declared.ring.RingCode.{RingCode}
 use Rattle.mvt_fault.specs.declared.ring.RingEdge.{RingEdge}
 use Rattle.mvt_plane.specs.FeatureGeometry.{BreaksCommands}
@@ -30,7 +29,3 @@ pub data IsFaultOfGeometryBy (profile : Profile) (feature_record : FeatureRecord
       → IsFaultOfGeometryBy profile feature_record layer feature (HoleInHole layer feature polygon ring vertex other)
   in_polygon : (polygon vertex other : ℕ) → OfRings feature_record (λ rings. IsVertexInPolygonBy profile rings polygon vertex other)
       → IsFaultOfGeometryBy profile feature_record layer feature (InPolygon layer feature polygon vertex other)
-
--- the same by the profile that checks each polygon by itself
-abbrev pub IsFaultOfGeometry : FeatureRecord → ℕ → ℕ → Fault → Type 0
-IsFaultOfGeometry = IsFaultOfGeometryBy Polygon

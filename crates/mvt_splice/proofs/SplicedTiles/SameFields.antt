@@ -46,12 +46,6 @@ payload_back (eight_bytes part) after same = subst (λ (c : Content). IsSamePayl
 payload_back (delimited from part) after same = subst (λ (c : Content). IsSamePayload c (delimited from part)) (sym same.1) (from, refl)
 payload_back (four_bytes part) after same = subst (λ (c : Content). IsSamePayload c (four_bytes part)) (sym same) refl
 
-pub payload_through : (first second third : Content) → IsSamePayload first second → IsSamePayload second third → IsSamePayload first third
-payload_through (varint value at) second third same next = let n : IsSamePayload (varint value same.0) third = subst (λ (c : Content). IsSamePayload c third) same.1 next in n
-payload_through (eight_bytes part) second third same next = subst (λ (c : Content). IsSamePayload c third) same next
-payload_through (delimited from part) second third same next = let n : IsSamePayload (delimited same.0 part) third = subst (λ (c : Content). IsSamePayload c third) same.1 next in n
-payload_through (four_bytes part) second third same next = subst (λ (c : Content). IsSamePayload c third) same next
-
 -- the wire type, the number, the bytes and the stated numbers
 pub same_type : (before after : Content) → IsSamePayload before after → wire_type_of after ≡ wire_type_of before
 same_type (varint value at) after same = ap wire_type_of same.1
@@ -128,9 +122,6 @@ field_first_moved by entry = record { number = refl; payload = payload_first_mov
 
 pub field_back : (before after : Entry) → IsSameField before after → IsSameField after before
 field_back before after same = record { number = sym same.number; payload = payload_back before.content after.content same.payload }
-
-pub field_through : (first second third : Entry) → IsSameField first second → IsSameField second third → IsSameField first third
-field_through first second third same next = record { number = next.number ∙ same.number; payload = payload_through first.content second.content third.content same.payload next.payload }
 
 pub FitsRule-same : (message : Message) (before after : Entry) → IsSameField before after → FitsRule message before → FitsRule message after
 FitsRule-same message before after same fits rule known =

@@ -37,11 +37,6 @@ EmbedsWhole-moved field_number Holds by other entry embeds = λ own.
     let found = embeds own in
     (found.0, bytes_in-moved other entry.content ∙ sym (bytes_in-moved by entry.content) ∙ found.1, found.2)
 
--- a payload of wire type 2
-delimited_part : (content : Content) → wire_type_of content ≡ 2 → (start : ℕ) × (part : List ℕ) × (content ≡ delimited start part)
-delimited_part (delimited start part) type = (start, part, refl)
-delimited_part content type = absurd (omega arith)
-
 -- a part of a front is the same part of all
 slice_range-front : (bytes : List ℕ) (end from to : ℕ) → from ≤ to → to ≤ length (take end bytes) → slice_range (take end bytes) from to ≡ slice_range bytes from to
 slice_range-front bytes end from to forward within =

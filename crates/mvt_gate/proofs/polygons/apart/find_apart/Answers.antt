@@ -3,7 +3,8 @@ use Rattle.mvt_fault.specs.declared.profile.Profile.TheVariants.{Feature}
 use Rattle.mvt_wire.proofs.NothingFound.{IfNone-any}
 use Rattle.mvt_sweep.specs.Rings.{rings_of}
 use Rattle.mvt_gate.proofs.FeatureSearches.{least_for, valid_for}
-use Rattle.mvt_gate.specs.Calls.Polygons.{IsFeatureAnswerFor, IsFirstOfRingsFor}
+use Rattle.mvt_gate.specs.Calls.Polygons.{IsFeatureAnswerFor}
+use Rattle.mvt_gate.specs.Quick.{IsFirstOfRingsFor}
 use Rattle.mvt_gate.proofs.polygons.apart.find_apart.Goals as goal
 
 pub returns-in_default-clause-valid : goal.returns-in_default-clause-valid
