@@ -1,5 +1,5 @@
 -- The geometry of a feature's record, by the numbers that its readers were given.
-use Rattle.std.proofs.Common.{◌≡◌, ◌≢◌, ℕ, List, Option, Result, IfOk, IfNone, IfSome, refl, sym, ◌∙◌, subst, arith}
+use Rattle.std.proofs.Common.{◌≡◌, ◌≢◌, ℕ, List, Option, Result, IfOk, IfNone, IfSome, sym, subst}
 use Rattle.std.proofs.lemmas.Option.{IfSome_then}
 use Rattle.std.proofs.lemmas.Result.{IfOk-weaker}
 use Rattle.mvt_rules.specs.Parts.Geometry.{IsFaultOfGeometryBy}
@@ -13,15 +13,11 @@ use Rattle.mvt_plane.specs.Commands.Figure.{polygon}
 use Rattle.mvt_plane.specs.FeatureGeometry.{HasFigure, HasRings, type_number}
 use Rattle.mvt_plane.specs.Position.{Position}
 use Rattle.mvt_tile.specs.FreeFaults.{IsLeastOr, of_least}
-use Rattle.mvt_tile.specs.View.{kind_number}
-use Rattle.mvt_tile.specs.declared.record.Kind.{Kind}
-use Rattle.mvt_tile.specs.declared.record.Kind.TheVariants.{Unknown, Point, LineString, Polygon}
 use Rattle.mvt_wire.proofs.NothingFound.{IfNone_then}
 use Rattle.mvt_rules.specs.Tile.{FeatureRecord}
 use Rattle.mvt_gate.proofs.FirstFaults.{command_is_least}
 use Rattle.mvt_gate.proofs.ValidGeometries.{valid_of_rings}
-use Rattle.mvt_gate.specs.Calls.Polygons.{IsFirstOfRingsFor}
-use Rattle.mvt_gate.specs.Quick.{IsFreeFor}
+use Rattle.mvt_gate.specs.Quick.{IsFirstOfRingsFor, IsFreeFor}
 use Rattle.mvt_gate.specs.declared.quick.Search.{Search}
 
 -- what is known where a call finds nothing
@@ -48,16 +44,6 @@ module _ {R E : Type 0} (search : Search) (profile : Profile) (result : Result R
       IfOk-weaker result _ _
       (λ _ some. IfSome_then found some
       (λ first least it is. least it (subst (λ (its : List (List Position)). HasRings it.kind it.geometry its) (sym all) (subst (λ (n : ℕ). HasRings n it.geometry drawn) (sym (kind it is)) (has it is)))))
-
--- the number of polygons is that of no other kind
-other_number : (kind : Kind) → kind ≢ Polygon → kind_number kind ≢ type_number polygon
-other_number Unknown other = λ same. absurd (omega arith)
-other_number Point other = λ same. absurd (omega arith)
-other_number LineString other = λ same. absurd (omega arith)
-other_number Polygon other = absurd (other refl)
-
-pub other_kind : (kind : Kind) (it : FeatureRecord) → kind ≢ Polygon → kind_number kind ≡ it.kind → it.kind ≢ type_number polygon
-other_kind kind it other same is = other_number kind other (same ∙ is)
 
 -- a figure that is no polygon is valid where it is drawn
 pub valid_by_figure : (profile : Profile) (it : FeatureRecord) → it.kind ≢ type_number polygon → HasFigure it.kind it.geometry → IsValidGeometryBy profile it

@@ -17,6 +17,5 @@ pub mod PolygonPlaces
 pub mod PolygonWalk
 pub mod QuickVerdicts
 pub mod SeenFigures
-pub mod Stored
 pub mod ValidGeometries
 pub mod Verdicts

@@ -1,5 +1,6 @@
 -- What the first walk has seen, by the rules of any profile.
 use Rattle.std.proofs.Common.{ℕ, inl, inr, List}
+use Rattle.mvt_fault.specs.declared.fault.Fault.{Fault}
 use Rattle.mvt_fault.specs.declared.profile.Profile.{Profile}
 use Rattle.mvt_rules.specs.Parts.Geometry.{IsFaultOfGeometryBy}
 use Rattle.mvt_rules.specs.Tile.{FeatureRecord, LayerRecord}
@@ -8,6 +9,10 @@ use Rattle.mvt_rules.proofs.Validity.ValidParts.{geometry_kept}
 use Rattle.mvt_tile.specs.RuleFaults.{Keeps, IsSoundFeature}
 use Rattle.mvt_tile.specs.Sound.{AreSoundTo, tells_none}
 use Rattle.mvt_tile.specs.declared.seen.Seen.{Seen}
+
+-- a feature with valid geometry has none of its faults
+pub geometry_right : (profile : Profile) (it : FeatureRecord) (layer feature : ℕ) → IsValidGeometryBy profile it → ((fault : Fault) → ¬ IsFaultOfGeometryBy profile it layer feature fault) × IsValidGeometryBy profile it
+geometry_right profile it layer feature valid = (λ fault broken. geometry_kept profile it layer feature fault valid broken, valid)
 
 module _ (profile : Profile) (IsKept : Keeps) (valid : (it : FeatureRecord) → IsKept it → IsValidGeometryBy profile it) where
   -- a feature with valid geometry has no fault of it

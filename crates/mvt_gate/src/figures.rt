@@ -26,9 +26,11 @@ impl FeatureTest for FigureTest {
     ghost use Rattle.std.specs.Prelude.{◌≡◌, ◌⊎◌, true};
     ghost use Rattle.mvt_fault.specs.declared.profile.Profile.{Profile};
     ghost use Rattle.mvt_rules.specs.Valid.{IsValidGeometryBy};
+    ghost use Rattle.mvt_plane.specs.Commands.Figure.{polygon};
+    ghost use Rattle.mvt_plane.specs.FeatureGeometry.{type_number};
 
     ghost IsKept = { λ test it. ((profile : Profile) → IsValidGeometryBy profile it)
-        ⊎ (test.has_polygons ≡ true) };
+        ⊎ ((test.has_polygons ≡ true) × (it.kind ≡ type_number polygon)) };
 
     fn keeps(&mut self, feature: &FeatureBytes<'_>) -> bool {
         match feature.kind() {

@@ -18,6 +18,8 @@ use std::alloc::{AllocError, Global};
 pub(crate) enum FirstWalk {
     /// They are a valid tile by each profile.
     Valid,
+    /// They are one but for polygons, at which none looked.
+    ButPolygons,
     /// They aren't: they have a wire fault.
     Faulty,
     /// They have no wire fault, and the features that were seen no other one.
@@ -40,7 +42,7 @@ pub(crate) fn first_walk(
     let mut seen = Seen::nothing();
     if passes_one_walk(alloc, bytes, &mut figures, &mut seen)? {
         if figures.has_polygons {
-            return Ok(FirstWalk::Whole(Seen::nothing()));
+            return Ok(FirstWalk::ButPolygons);
         }
         return Ok(FirstWalk::Valid);
     }

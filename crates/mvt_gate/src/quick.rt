@@ -11,7 +11,7 @@ use crate::first_walk::{FirstWalk, first_walk};
 use crate::geometry::QuickGeometry;
 use crate::verdict::{Verdict, find_fault, verdict_of};
 use mvt_fault::{Fault, Profile};
-use mvt_tile::rule_fault_after;
+use mvt_tile::{polygon_fault, rule_fault_after};
 use std::alloc::{AllocError, Global};
 
 /// Which faults are searched for.
@@ -109,6 +109,9 @@ fn find_in_features(
 {
     match first_walk(alloc, bytes, found)? {
         FirstWalk::Valid => Ok(()),
+        FirstWalk::ButPolygons => {
+            polygon_fault(alloc, bytes, &mut QuickGeometry::new(alloc), found)
+        }
         FirstWalk::Faulty => Ok(()),
         FirstWalk::Whole(seen) => {
             rule_fault_after(alloc, bytes, seen, &mut QuickGeometry::new(alloc), found)

@@ -5,7 +5,7 @@ ghost use Rattle.mvt_rules.specs.Shows.{Shows, ShowsBy};
 ghost use Rattle.mvt_rules.specs.Valid.{IsValidGeometryBy, Valid, ValidBy};
 ghost use Rattle.mvt_fault.specs.Place.{IsLeast};
 ghost use Rattle.mvt_fault.specs.declared.fault.Fault.{Fault};
-ghost use Rattle.mvt_tile.specs.RuleFaults.{BreaksAnyRule, KeepsRules};
+ghost use Rattle.mvt_tile.specs.RuleFaults.{BreaksAnyRule, KeepsButPolygons, KeepsRules};
 ghost use Rattle.mvt_tile.specs.Sound.{AreSoundTo};
 ghost use Rattle.mvt_rules.specs.Tile.{IsTile, TileRecord};
 ghost use Rattle.mvt_gate.specs.Verdict.{IsVerdict, IsVerdictBy, verdict_of};
@@ -14,7 +14,7 @@ ghost use Rattle.mvt_gate.specs.declared.verdict.Verdict.{Verdict};
 use crate::first_walk::{FirstWalk, first_walk};
 use crate::geometry::{FeatureGeometry, PolygonGeometry};
 use mvt_fault::{Fault, Profile};
-use mvt_tile::{Seen, rule_fault_after};
+use mvt_tile::{Seen, polygon_fault, rule_fault_after};
 use std::alloc::{AllocError, Global};
 
 /// What the gate says of the bytes of a tile.
@@ -101,6 +101,7 @@ pub(crate) fn find_fault(
 {
     match first_walk(alloc, bytes, found)? {
         FirstWalk::Valid => Ok(()),
+        FirstWalk::ButPolygons => find_polygon_fault(alloc, profile, bytes, found),
         FirstWalk::Faulty => Ok(()),
         FirstWalk::Whole(seen) => find_rule_fault(alloc, profile, bytes, seen, found),
     }
@@ -131,5 +132,28 @@ fn find_rule_fault(
         Profile::Feature => {
             rule_fault_after(alloc, bytes, seen, &mut FeatureGeometry::new(alloc), found)
         }
+    }
+}
+
+/// The same of a tile that keeps all rules but those on polygons.
+fn find_polygon_fault(
+    alloc: Global,
+    profile: Profile,
+    bytes: &[u8],
+    found: &mut Option<Fault>,
+) -> Result<(), AllocError>
+    requires nothing { found.old ≡ None }
+    requires tile { (tile : TileRecord) × IsTile bytes.now tile }
+    requires others { (tile : TileRecord) → IsTile bytes.now tile
+        → KeepsButPolygons (IsFaultOfGeometryBy profile) (IsValidGeometryBy profile) tile }
+    ensures none { OnOk result (IfNone found.new ((tile : TileRecord) → IsTile bytes.now tile
+        → KeepsRules (IsValidGeometryBy profile) tile)) }
+    ensures least { OnOk result (IfSome found.new (λ fault. (tile : TileRecord)
+        → IsTile bytes.now tile
+        → IsLeast (BreaksAnyRule (IsFaultOfGeometryBy profile) tile) fault)) }
+{
+    match profile {
+        Profile::Polygon => polygon_fault(alloc, bytes, &mut PolygonGeometry::new(alloc), found),
+        Profile::Feature => polygon_fault(alloc, bytes, &mut FeatureGeometry::new(alloc), found),
     }
 }

@@ -11,9 +11,11 @@ pub mod LayerFaults
 pub mod LayerNames
 pub mod Names
 pub mod OneAdvice
+pub mod PolygonScan
 pub mod Repetitions
 pub mod RuleOrder
 pub mod Seen
+pub mod Stored
 pub mod SummaryReading
 pub mod TagFaults
 pub mod TagScans

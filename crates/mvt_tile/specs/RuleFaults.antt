@@ -1,5 +1,5 @@
 -- The rules between a tile's parts, and a further one on its features.
-use Rattle.std.specs.Prelude.{◌≡◌, ℕ, ◌≤◌, ◌⊎◌, List, ◌∷◌, Some, slice_get}
+use Rattle.std.specs.Prelude.{◌≡◌, ◌≢◌, ℕ, ◌≤◌, ◌⊎◌, List, ◌∷◌, Some, slice_get}
 use Rattle.mvt_rules.specs.Parts.TrueFaults.{BreaksRule, FeatureFaultRelation, IsFaultOfTags, OneFeatureHas}
 use Rattle.mvt_fault.specs.declared.fault.Fault.{Fault}
 use Rattle.mvt_rules.specs.Rules.{IsFeatureOf}
@@ -29,6 +29,13 @@ BreaksAnyRule IsBroken tile fault = BreaksRule tile fault ⊎ OneFeatureHas (λ 
 pub record KeepsRules (IsKept : Keeps) (tile : TileRecord) : Type 0 where
   pub parts : (fault : Fault) → ¬ BreaksRule tile fault
   pub features : (layer feature : ℕ) (layer_record : LayerRecord) (feature_record : FeatureRecord) → IsFeatureOf tile layer feature layer_record feature_record → IsKept feature_record
+
+-- the tile's record keeps the rules between its parts; and of its features those that aren't of polygons, whose type is 3, neither
+-- break a further one nor fail to keep it
+pub record KeepsButPolygons (IsBroken : Breaks) (IsKept : Keeps) (tile : TileRecord) : Type 0 where
+  pub parts : (fault : Fault) → ¬ BreaksRule tile fault
+  pub others : (layer feature : ℕ) (layer_record : LayerRecord) (feature_record : FeatureRecord) → IsFeatureOf tile layer feature layer_record feature_record → feature_record.kind ≢ 3
+      → ((fault : Fault) → ¬ IsBroken feature_record layer feature fault) × IsKept feature_record
 
 -- the feature has this fault, of its tags or of the further rule
 abbrev pub IsFaultOfFeature : Breaks → FeatureFaultRelation

@@ -19,7 +19,9 @@ pub use feature_bytes::FeatureBytes;
 pub use lists::list_of;
 pub use read::{ReadFault, read_tile};
 pub use record::{Feature, Kind, Layer, Tile, Value};
-pub use rules::{FeatureRule, check_layers, check_tags, rule_fault, rule_fault_after, rule_faults};
+pub use rules::{
+    FeatureRule, check_layers, check_tags, polygon_fault, rule_fault, rule_fault_after, rule_faults,
+};
 pub use seen::Seen;
 pub use walk::{FeatureTest, passes_one_walk};
 pub use wire::{wire_fault, wire_fault_after};

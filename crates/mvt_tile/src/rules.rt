@@ -22,6 +22,7 @@ mod layer_rules;
 mod layer_scan;
 mod layers;
 pub(crate) mod names;
+mod polygons;
 mod summary;
 mod tags;
 
@@ -29,6 +30,7 @@ use crate::seen::Seen;
 pub use faults::rule_faults;
 pub(crate) use features::FeatureBuffer;
 pub use features::FeatureRule;
+pub(crate) use key_marks::KeyMarks;
 pub(crate) use layer_rules::LayerRules;
 use layer_scan::find_in_layer;
 pub use layers::check_layers;
@@ -36,10 +38,11 @@ use mvt_fault::Fault;
 use mvt_wire::field_number::LAYERS;
 use mvt_wire::payload::payload_span;
 use mvt_wire::{Fields, Part};
+pub use polygons::polygon_fault;
 use std::alloc::{AllocError, Global};
 pub(crate) use summary::{LayerSummary, add_field, empty_summary};
 pub use tags::check_tags;
-pub(crate) use tags::{TagNeeds, scan_tags};
+pub(crate) use tags::{TagNeeds, next_tags};
 
 /// The first fault of a tile by its rules, or None where it keeps them: its layers have version 2
 /// and different names (Mapbox Vector Tile Specification 2.1, section 4.1), the tags of each

@@ -14,6 +14,7 @@ ghost use Rattle.mvt_tile.specs.Sound.{AreSoundTo, tells_none};
 
 mod feature;
 mod layer;
+mod tags;
 mod value;
 
 use crate::rules::{FeatureBuffer, LayerRules, TagNeeds};

@@ -9,15 +9,24 @@ use Rattle.mvt_rules.specs.Valid.{IsValidGeometryBy, ValidBy}
 use Rattle.mvt_rules.specs.WireFault.{WireFault}
 use Rattle.mvt_wire.specs.declared.cause.WireCause.{WireCause}
 use Rattle.mvt_wire.specs.declared.scope.Scope.{Scope}
+use Rattle.mvt_rules.specs.Tile.{IsTile, TileRecord}
+use Rattle.mvt_tile.specs.RuleFaults.{KeepsButPolygons}
 use Rattle.mvt_tile.specs.Sound.{AreSoundTo}
 use Rattle.mvt_gate.specs.declared.first_walk.FirstWalk.{FirstWalk}
-use Rattle.mvt_gate.specs.declared.first_walk.FirstWalk.TheVariants.{Valid, Faulty, Whole}
+use Rattle.mvt_gate.specs.declared.first_walk.FirstWalk.TheVariants.{Valid, ButPolygons, Faulty, Whole}
 
--- they are a valid tile by each profile; or their first wire fault is stored; or they have none, and the features that were seen
--- have no fault by any profile; and otherwise nothing is stored
+-- they have no wire fault
+abbrev pub HasNoWireFault : List ℕ → Type 0
+HasNoWireFault bytes = (scope : Scope) (cause : WireCause) → ¬ WireFault bytes scope cause
+
+-- they are a valid tile by each profile; or they have no wire fault, and keep all rules but those on polygons; or their first wire
+-- fault is stored; or they have none, and the features that were seen have no fault by any profile; and otherwise nothing is stored
 abbrev pub IsFirstWalk : List ℕ → FirstWalk → Option Fault → Type 0
 IsFirstWalk bytes Valid found = (found ≡ None) × ((profile : Profile) → ValidBy profile bytes)
+IsFirstWalk bytes ButPolygons found =
+    (found ≡ None)
+    × (HasNoWireFault bytes × ((profile : Profile) (tile : TileRecord) → IsTile bytes tile → KeepsButPolygons (IsFaultOfGeometryBy profile) (IsValidGeometryBy profile) tile))
 IsFirstWalk bytes Faulty found = (fault : Fault) × (found ≡ Some fault) × IsLeast (IsWireFault bytes) fault
 IsFirstWalk bytes (Whole seen) found =
     (found ≡ None)
-    × (((scope : Scope) (cause : WireCause) → ¬ WireFault bytes scope cause) × ((profile : Profile) → AreSoundTo (IsFaultOfGeometryBy profile) (IsValidGeometryBy profile) bytes seen))
+    × (HasNoWireFault bytes × ((profile : Profile) → AreSoundTo (IsFaultOfGeometryBy profile) (IsValidGeometryBy profile) bytes seen))

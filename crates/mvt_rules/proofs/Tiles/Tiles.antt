@@ -146,7 +146,7 @@ same_layer : (a b : LayerRecord) → a.version ≡ b.version → a.name ≡ b.na
 same_layer a b versions names features keys values extents = λ i. record { version = versions i; name = names i; features = features i; keys = keys i; values = values i; extent = extents i }
 
 -- a span holds one layer
-one_layer : (bytes : List ℕ) (span : Span) (first second : LayerRecord) → IsLayer bytes span first → IsLayer bytes span second → first ≡ second
+pub one_layer : (bytes : List ℕ) (span : Span) (first second : LayerRecord) → IsLayer bytes span first → IsLayer bytes span second → first ≡ second
 one_layer bytes span first second h k =
     let same : h.entries ≡ k.entries = one_list (take span.to bytes) span.from h.entries k.entries h.whole k.whole in
     let versions : first.version ∷ [] ≡ second.version ∷ [] = sym h.version ∙ ap (λ (es : List Entry). numbers_of 15 es) same ∙ k.version in

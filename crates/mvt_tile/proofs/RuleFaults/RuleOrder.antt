@@ -53,7 +53,7 @@ module _ (IsBroken : Breaks) (after_tags : AreAfterTags IsBroken) where
       ];
     }
 
-    first_of_features : (IsFree : Frees) → ((fault : Fault) → ¬ IsFaultOfLayers tile fault) → (fault : Fault) → IsLeastOr IsFree (OneFeatureHas (IsFaultOfFeature IsBroken) tile) fault → IsLeastOr IsFree (BreaksAnyRule IsBroken tile) fault
+    pub first_of_features : (IsFree : Frees) → ((fault : Fault) → ¬ IsFaultOfLayers tile fault) → (fault : Fault) → IsLeastOr IsFree (OneFeatureHas (IsFaultOfFeature IsBroken) tile) fault → IsLeastOr IsFree (BreaksAnyRule IsBroken tile) fault
     first_of_features IsFree none fault first =
         lifted IsFree (OneFeatureHas (IsFaultOfFeature IsBroken) tile) fault (BreaksAnyRule IsBroken tile) (λ holds. of_feature tile fault holds)
         (λ other holds. elim (by_part tile other holds) [
@@ -62,7 +62,7 @@ module _ (IsBroken : Breaks) (after_tags : AreAfterTags IsBroken) where
         ]) first
 
     -- where the layers have no fault and the features are sound, the tile keeps the rules
-    all_kept : (IsKept : Keeps) → ((fault : Fault) → ¬ IsFaultOfLayers tile fault) → AllSound IsBroken IsKept tile → KeepsRules IsKept tile
+    pub all_kept : (IsKept : Keeps) → ((fault : Fault) → ¬ IsFaultOfLayers tile fault) → AllSound IsBroken IsKept tile → KeepsRules IsKept tile
     all_kept IsKept none sound = record { parts = parts; features = λ layer feature layer_record feature_record there. (sound layer feature layer_record feature_record there).kept }
       where
         parts : (fault : Fault) → ¬ BreaksRule tile fault

@@ -1,5 +1,5 @@
 -- Tags that a pass over their pairs has gone over, and what is kept of them (Mapbox Vector Tile Specification 2.1, section 4.4).
-use Rattle.std.specs.Prelude.{◌≡◌, ◌==◌, ℕ, ◌+◌, ◌-◌, ◌*◌, ◌<◌, ◌≤◌, nat_lt, Bool, true, cond, List, length, slice_get, slice_index_or, Option, Some, MatchOption}
+use Rattle.std.specs.Prelude.{◌≡◌, ◌==◌, ℕ, ◌+◌, ◌-◌, ◌*◌, ◌^◌, ◌<◌, ◌≤◌, nat_lt, Bool, true, cond, List, drop, length, slice_get, slice_index_or, Option, Some, None, MatchOption}
 use Rattle.mvt_rules.specs.Rules.{TagsBreak, IsKeyAt, NoSuchKey, NoSuchValue}
 use Rattle.mvt_fault.specs.declared.tag.TagCode.{TagCode}
 use Rattle.mvt_tile.specs.Calls.RuleFaults.{IsFirstTagFault}
@@ -18,6 +18,10 @@ has_key set key = mark_of set key == set.current
 pub record AreMetBy (needs : TagNeeds) (tags : List ℕ) : Type 0 where
   pub keys : (count place : ℕ) → needs.keys ≤ count → ¬ NoSuchKey count tags place
   pub values : (count place : ℕ) → needs.values ≤ count → ¬ NoSuchValue count tags place
+
+-- in a layer that has so many keys and values, or more, the tags have no fault
+abbrev pub AreGoodWith : TagNeeds → List ℕ → Type 0
+AreGoodWith needs tags = (keys values : ℕ) → needs.keys ≤ keys → needs.values ≤ values → (code : TagCode) (place : ℕ) → ¬ TagsBreak code keys values tags place
 
 -- in a list of pairs, this one is at a place
 pub record IsPairAt (tags : List ℕ) (at key value : ℕ) : Type 0 where
@@ -58,3 +62,9 @@ pub record IsScanned (set : KeyMarks) (keys values : ℕ) (tags : List ℕ) (at 
   pub within : at ≤ length tags
   pub met : IsMetBefore needs.keys needs.values tags at
   pub so_far : (pairs : ℕ) → length tags ≡ 2 * pairs → HasFoundBefore set keys values tags at found
+
+-- the pairs before some place were passed, and have no fault but that a layer may have fewer keys or values; the rest is left
+pub record ArePassedSoFar (Leaves : List ℕ → Type 0) (set : KeyMarks) (tags : List ℕ) (needs : TagNeeds) : Type 0 where
+  pub at : ℕ
+  pub left : Leaves (drop at tags)
+  pub scanned : IsScanned set (2 ^ 32) (2 ^ 32) tags at needs None

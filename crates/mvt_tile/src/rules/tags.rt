@@ -83,7 +83,7 @@ impl TagNeeds {
 
     /// What a pair of tags needs.
     #[inline(always)]
-    fn of(key: u32, value: u32) -> TagNeeds
+    pub(crate) fn of(key: u32, value: u32) -> TagNeeds
         ensures { result ≡ record { keys = key + 1; values = value + 1 } }
     {
         TagNeeds {
@@ -111,7 +111,7 @@ impl TagNeeds {
 /// layer. `marks` keeps marks of keys, and is used again for each feature. The only error is that
 /// memory was refused.
 #[inline(always)]
-pub(crate) fn scan_tags<N: NumberSource + Drop>(
+pub(super) fn scan_tags<N: NumberSource + Drop>(
     marks: &mut KeyMarks,
     tags: &mut N,
     keys: usize,
@@ -172,7 +172,7 @@ fn scan_rest<N: NumberSource + Drop>(
 
 /// The next pair of tags, or a number that is left over at the end, or None at the end.
 #[inline(always)]
-fn next_tags<N: NumberSource + Drop>(tags: &mut N) -> Option<(u32, Option<u32>)>
+pub(crate) fn next_tags<N: NumberSource + Drop>(tags: &mut N) -> Option<(u32, Option<u32>)>
     ensures end { IfNone result ((given : List ℕ) → N.Leaves tags.old given → given ≡ []) }
     ensures odd { IfSome result (λ next. IfNone next.1 ((given : List ℕ) → N.Leaves tags.old given
         → given ≡ next.0 ∷ [])) }

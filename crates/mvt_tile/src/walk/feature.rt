@@ -4,10 +4,11 @@ ghost use Rattle.std.specs.Prelude.{◌≤◌, IfOk, IsTrue};
 ghost use Rattle.mvt_wire.specs.Embedded.{span_in};
 ghost use Rattle.mvt_rules.specs.Tile.{FeatureRecord};
 ghost use Rattle.mvt_tile.specs.FeatureBytes.{Encodes};
-ghost use Rattle.mvt_tile.specs.Calls.OneWalk.{HasGoodTags, IsRightFeature};
+ghost use Rattle.mvt_tile.specs.Calls.OneWalk.{IsRightFeature};
 
+use super::tags::tags_pass;
 use crate::feature_bytes::FeatureBytes;
-use crate::rules::{FeatureBuffer, TagNeeds, scan_tags};
+use crate::rules::{FeatureBuffer, TagNeeds};
 use mvt_wire::Part;
 use std::alloc::{AllocError, Global};
 
@@ -49,29 +50,4 @@ pub(crate) fn passes_feature<T: FeatureTest>(
         return Ok(false);
     }
     Ok(test.keeps(&feature))
-}
-
-/// The same of a feature's tags alone.
-#[inline(always)]
-fn tags_pass(
-    feature: &FeatureBytes<'_>,
-    buffer: &mut FeatureBuffer,
-    most: usize,
-    needs: &mut TagNeeds,
-) -> Result<bool, AllocError>
-    ensures no_fewer_keys { needs.old.keys ≤ needs.new.keys }
-    ensures no_fewer_values { needs.old.values ≤ needs.new.values }
-    ensures tags { IfOk result (λ pass. IsTrue pass → (feature_record : FeatureRecord)
-        → Encodes feature.now feature_record → HasGoodTags most needs.new feature_record) }
-{
-    if feature.has_no_tag() {
-        return Ok(true);
-    }
-    let mut found = None;
-    let mut tags = feature.tags();
-    needs.add(scan_tags(&mut buffer.marks, &mut tags, most, most, &mut found)?);
-    match found {
-        None => Ok(true),
-        Some(_) => Ok(false),
-    }
 }

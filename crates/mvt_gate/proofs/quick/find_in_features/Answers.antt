@@ -33,3 +33,19 @@ rule_fault_after-requires-clause-after_tags c = after_tags Feature
 pub returns-in-Whole : goal.returns-in-Whole
 returns-in-Whole c =
     quick_found Feature c.args.bytes.now c.rule_fault_after.result c.rule_fault_after.new.found (rw c.in-Whole.is at c.in_ok-first_walk.ensures).1.0 c.rule_fault_after.ensures.none c.rule_fault_after.ensures.found
+
+pub polygon_fault-requires-clause-nothing : goal.polygon_fault-requires-clause-nothing
+polygon_fault-requires-clause-nothing c = (rw c.in-ButPolygons.is at c.in_ok-first_walk.ensures).0
+
+pub polygon_fault-requires-clause-tile : goal.polygon_fault-requires-clause-tile
+polygon_fault-requires-clause-tile c = is_tile c.args.bytes.now (rw c.in-ButPolygons.is at c.in_ok-first_walk.ensures).1.0
+
+pub polygon_fault-requires-clause-others : goal.polygon_fault-requires-clause-others
+polygon_fault-requires-clause-others c = (rw c.in-ButPolygons.is at c.in_ok-first_walk.ensures).1.1 Feature
+
+pub polygon_fault-requires-clause-after_tags : goal.polygon_fault-requires-clause-after_tags
+polygon_fault-requires-clause-after_tags c = after_tags Feature
+
+pub returns-in-ButPolygons : goal.returns-in-ButPolygons
+returns-in-ButPolygons c =
+    quick_found Feature c.args.bytes.now c.polygon_fault.result c.polygon_fault.new.found (rw c.in-ButPolygons.is at c.in_ok-first_walk.ensures).1.0 c.polygon_fault.ensures.none c.polygon_fault.ensures.found

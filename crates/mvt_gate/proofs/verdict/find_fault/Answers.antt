@@ -27,3 +27,16 @@ find_rule_fault-requires-clause-sound c = (rw c.in-Whole.is at c.in_ok-first_wal
 pub returns-in-Whole : goal.returns-in-Whole
 returns-in-Whole c =
     verdict_found c.args.profile c.args.bytes.now c.find_rule_fault.result c.find_rule_fault.new.found (rw c.in-Whole.is at c.in_ok-first_walk.ensures).1.0 c.find_rule_fault.ensures.none c.find_rule_fault.ensures.least
+
+pub find_polygon_fault-requires-clause-nothing : goal.find_polygon_fault-requires-clause-nothing
+find_polygon_fault-requires-clause-nothing c = (rw c.in-ButPolygons.is at c.in_ok-first_walk.ensures).0
+
+pub find_polygon_fault-requires-clause-tile : goal.find_polygon_fault-requires-clause-tile
+find_polygon_fault-requires-clause-tile c = is_tile c.args.bytes.now (rw c.in-ButPolygons.is at c.in_ok-first_walk.ensures).1.0
+
+pub find_polygon_fault-requires-clause-others : goal.find_polygon_fault-requires-clause-others
+find_polygon_fault-requires-clause-others c = (rw c.in-ButPolygons.is at c.in_ok-first_walk.ensures).1.1 c.args.profile
+
+pub returns-in-ButPolygons : goal.returns-in-ButPolygons
+returns-in-ButPolygons c =
+    verdict_found c.args.profile c.args.bytes.now c.find_polygon_fault.result c.find_polygon_fault.new.found (rw c.in-ButPolygons.is at c.in_ok-first_walk.ensures).1.0 c.find_polygon_fault.ensures.none c.find_polygon_fault.ensures.least

@@ -1,5 +1,5 @@
 use Rattle.std.proofs.lemmas.Bool.{false≢true}
-use Rattle.mvt_gate.proofs.FeatureGeometries.{other_kind}
+use Rattle.mvt_tile.proofs.RuleFaults.PolygonScan.{other_kind}
 use Rattle.mvt_mender.proofs.mending.is_of_polygons.Goals as goal
 
 pub returns-in_default : goal.returns-in_default

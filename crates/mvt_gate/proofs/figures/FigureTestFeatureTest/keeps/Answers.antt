@@ -1,7 +1,18 @@
-use Rattle.std.proofs.Common.{ℕ, inl, subst}
+use Rattle.std.proofs.Common.{ℕ, inl, inr, refl, sym, ◌∙◌, ap, subst}
 use Rattle.mvt_plane.specs.FeatureGeometry.{HasFigure}
-use Rattle.mvt_gate.proofs.FeatureGeometries.{other_kind, valid_by_figure}
+use Rattle.mvt_tile.proofs.RuleFaults.PolygonScan.{other_kind}
+use Rattle.mvt_tile.specs.View.{kind_number}
+use Rattle.mvt_gate.proofs.FeatureGeometries.{valid_by_figure}
 use Rattle.mvt_gate.proofs.figures.FigureTestFeatureTest.keeps.Goals as goal
+
+pub returns-in-Polygon : goal.returns-in-Polygon
+returns-in-Polygon c = record {
+  kept = λ is it encodes. inr (refl, sym (c.kind.ensures it encodes) ∙ ap kind_number c.in-Polygon.is);
+  still = λ it kept. elim kept [
+    | inl valid ↦ inl valid
+    | inr polygons ↦ inr (refl, polygons.1)
+  ];
+}
 
 pub returns-in-None : goal.returns-in-None
 returns-in-None c = record {

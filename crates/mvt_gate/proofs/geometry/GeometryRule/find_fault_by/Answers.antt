@@ -6,7 +6,8 @@ use Rattle.mvt_tile.specs.FeatureBytes.{Encodes}
 use Rattle.mvt_tile.specs.View.{kind_number}
 use Rattle.mvt_wire.proofs.NothingFound.{IfNone-any}
 use Rattle.mvt_rules.specs.Tile.{FeatureRecord}
-use Rattle.mvt_gate.proofs.FeatureGeometries.{least_by_commands, other_kind, valid_by_figure, where_none}
+use Rattle.mvt_tile.proofs.RuleFaults.PolygonScan.{other_kind}
+use Rattle.mvt_gate.proofs.FeatureGeometries.{least_by_commands, valid_by_figure, where_none}
 use Rattle.mvt_gate.proofs.geometry.GeometryRule.find_fault_by.Goals as goal
 
 pub returns-in-Polygon-clause-none : goal.returns-in-Polygon-clause-none
