@@ -1,4 +1,4 @@
-"""mvtgate-check FILE..: judges Mapbox vector tiles in files, folders and MBTiles files.
+"""mvtgate-check FILE..: judges Mapbox vector tiles in files, folders, MBTiles files and PMTiles archives.
 
 A line on standard output for each tile that isn't valid, or by --all for each of its faults, and a summary on standard error.
 Tiles may be packed by gzip, zlib or Zstandard. Exit status 0: all tiles are valid. 1: some have a fault, and all were judged. 2: the
@@ -49,7 +49,7 @@ def arguments() -> argparse.ArgumentParser:
     first, _, rest = (__doc__ or "").partition("\n\n")
     # (an option is never shortened: another one may begin so one day)
     reader = argparse.ArgumentParser(prog=PROGRAM, description=first.replace(f"{PROGRAM} FILE..: j", "J"), epilog=rest, allow_abbrev=False)
-    reader.add_argument("file", nargs="*", metavar="FILE", help="a tile, a folder of tiles, an MBTiles file, or - for standard input")
+    reader.add_argument("file", nargs="*", metavar="FILE", help="a tile, a folder of tiles, an MBTiles file, a PMTiles archive, or - for standard input")
     reader.add_argument("--profile", choices=_PROFILES, default="polygon", help="what polygons are held against (polygon)")
     reader.add_argument("--all", action="store_true", help="name each faulty layer and feature of a tile, and not the first one alone")
     reader.add_argument("--quick", action="store_true", help="answer in bounded time by each profile: perhaps a later fault of the same feature")

@@ -1,4 +1,4 @@
-"""mvtgate-planet FILE..: judges all tiles of MBTiles files, and of folders with files z/x/y.mvt, on all processors.
+"""mvtgate-planet FILE..: judges all tiles of MBTiles files, PMTiles archives and folders with files z/x/y.mvt, on all processors.
 
 What was found is written into a folder: faults.jsonl has a line for each tile that isn't valid, or by --all for each fault of it, and
 report.html shows it. Where a run was interrupted, the same words go on with it. Exit status 0: all tiles are valid. 1: some aren't. 2:
@@ -87,7 +87,7 @@ def arguments() -> argparse.ArgumentParser:
     description = first.replace("mvtgate-planet FILE..: j", "J")
     reader = Words(prog="mvtgate-planet", description=description, epilog=rest)
     reader.add_argument("--version", action="version", version=f"mvtgate-planet {mvtgate.version()}")
-    reader.add_argument("file", nargs="*", metavar="FILE", help="an MBTiles file, or a folder with files z/x/y.mvt (or .pbf)")
+    reader.add_argument("file", nargs="*", metavar="FILE", help="an MBTiles file, a PMTiles archive, or a folder with files z/x/y.mvt (or .pbf)")
     reader.add_argument("--list", metavar="NAMES", help="a file with more of them, one a line")
     reader.add_argument("--output", metavar="FOLDER", help="where the results go (the name of the first FILE, with .mvtgate)")
     reader.add_argument("--profile", choices=("polygon", "feature"), default="polygon", help="what polygons are held against (polygon)")
