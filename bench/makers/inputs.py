@@ -234,6 +234,8 @@ NAMED = VERSION + field(1, DELIMITED, b"a")
 SMALLEST_FEATURE = field(2, DELIMITED, feature(UNKNOWN, b""))
 SMALLEST_POINT = field(2, DELIMITED, feature(POINT, packed([command(MOVE_TO, 1), 0, 0])))
 SMALLEST_VALUE = field(4, DELIMITED, field(7, VARINT, 1))
+# a point with a tag of the greatest key that there is
+GREATEST_KEY = field(2, DELIMITED, feature(POINT, packed([command(MOVE_TO, 1), 0, 0]), tags=packed([(1 << 32) - 1, 0])))
 SMALLEST_KEY = field(3, DELIMITED, b"")
 
 # One geometry that takes all bytes
@@ -431,6 +433,7 @@ HOSTILE = {
     "one_name": lambda size: repeated(named_layer(PREFIX), size),
     "longest_fields": lambda size: repeated(longest(1 << 3 | VARINT) + longest((1 << 64) - 1), size),
     "longest_points": longest_points,
+    "greatest_keys": lambda size: one_payload(NAMED, GREATEST_KEY, size),
 }
 
 INPUTS = {

@@ -75,8 +75,8 @@ fn pass_lines<N: NumberSource + Drop>(source: &mut N) -> bool
     }
 }
 
-/// Whether a line comes next that ends in the range. Its first number was read before. Adds its
-/// parameters.
+/// Whether a line is known to come next that stays in the range. Its first number was read before. Adds
+/// its parameters.
 #[inline(always)]
 fn pass_line<N: NumberSource + Drop>(first: u32, source: &mut N, reach: &mut u64) -> bool
     requires near { reach.old ≤ 2 ^ 30 }

@@ -18,11 +18,11 @@ use std::alloc::{AllocError, Global};
 pub(crate) enum FirstWalk {
     /// They are a valid tile by each profile.
     Valid,
-    /// They are one but for polygons, at which none looked.
+    /// They are one but for polygons, which weren't looked at.
     ButPolygons,
     /// They aren't: they have a wire fault.
     Faulty,
-    /// They have no wire fault, and the features that were seen no other one.
+    /// They have no wire fault, and the features that were seen no other one but a missing key or value.
     Whole(Seen),
 }
 

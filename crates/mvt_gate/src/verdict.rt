@@ -108,7 +108,7 @@ pub(crate) fn find_fault(
 }
 
 /// The same of a tile by its rules and those of the profile. The bytes have no wire fault, and the
-/// features that were seen have none.
+/// features that were seen have none but a missing key or value.
 fn find_rule_fault(
     alloc: Global,
     profile: Profile,

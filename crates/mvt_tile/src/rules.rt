@@ -80,8 +80,8 @@ pub fn rule_fault<R: FeatureRule>(
     Ok(found)
 }
 
-/// The same where no feature in front of an offset has a fault: those features aren't looked at, but
-/// where a tag of their layer names a key or a value that it doesn't have. The fault is stored in
+/// The same where no feature in front of an offset has a fault but a missing key or value: those features
+/// aren't looked at, but where a tag of their layer names a key or a value that it doesn't have. The fault is stored in
 /// `found`, which is None before. (As an answer it would be copied at each call.)
 pub fn rule_fault_after<R: FeatureRule>(
     alloc: Global,

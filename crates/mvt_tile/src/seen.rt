@@ -7,10 +7,10 @@ use crate::rules::TagNeeds;
 #[derive(Clone, Copy)]
 pub struct Seen {
     /// No layer, value or feature that ends in front of this offset has a wire fault, and no feature
-    /// there another one.
+    /// there another one but a missing key or value.
     pub to: usize,
-    /// How many keys and values the layer at the offset must have, so that its features in front of it
-    /// have those that their tags name.
+    /// With so many keys and values the layer at the offset has all that its features in front of it name
+    /// in their tags.
     pub(crate) needs: TagNeeds,
 }
 

@@ -31,8 +31,8 @@ use std::alloc::{AllocError, Global};
 /// (`wire_fault`) that keeps the rules (`rule_fault`), of which each feature keeps a further one. It
 /// ends at the first part that doesn't look as writers make it, and then says no more than how far it
 /// has come: false may be said of any bytes. No layer, value or feature that ends in front of the
-/// offset `seen.to` has a wire fault then, and no feature there another one; versions and names of
-/// layers are left open. Its memory is for the names of the layers and for marks of keys. The only
+/// offset `seen.to` has a wire fault then, and no feature there another one but a missing key or value;
+/// versions and names of layers are left open. Its memory is for the names of the layers and for marks of keys. The only
 /// error is that memory was refused.
 pub fn passes_one_walk<T: FeatureTest>(
     alloc: Global,

@@ -20,7 +20,8 @@ abbrev pub HasNoWireFault : List ℕ → Type 0
 HasNoWireFault bytes = (scope : Scope) (cause : WireCause) → ¬ WireFault bytes scope cause
 
 -- they are a valid tile by each profile; or they have no wire fault, and keep all rules but those on polygons; or their first wire
--- fault is stored; or they have none, and the features that were seen have no fault by any profile; and otherwise nothing is stored
+-- fault is stored; or they have none, and the features that were seen no other by any profile, if their layers have what their tags
+-- need; and otherwise nothing is stored
 abbrev pub IsFirstWalk : List ℕ → FirstWalk → Option Fault → Type 0
 IsFirstWalk bytes Valid found = (found ≡ None) × ((profile : Profile) → ValidBy profile bytes)
 IsFirstWalk bytes ButPolygons found =

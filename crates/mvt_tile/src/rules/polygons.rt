@@ -21,8 +21,8 @@ use mvt_wire::{Fields, Part};
 use std::alloc::{AllocError, Global};
 
 /// The same as `rule_fault_after`, where the tile keeps the rules on its layers and tags, and all
-/// features keep the further rule but those of polygons: no other feature is looked at, and no tag. It
-/// takes no memory of its own. The only error is that memory was refused.
+/// features keep the further rule but those of polygons: of others only the types are read, and of none
+/// the tags. It takes no memory of its own. The only error is that memory was refused.
 pub fn polygon_fault<R: FeatureRule>(
     alloc: Global,
     bytes: &[u8],

@@ -28,7 +28,7 @@ pub(super) fn tags_pass(
         return Ok(true);
     }
     let mut tags = feature.tags();
-    let Some(own) = pass_tags(&mut buffer.marks, &mut tags)? else {
+    let Some(own) = pass_tags(&mut buffer.marks, &mut tags, most)? else {
         return Ok(false);
     };
     needs.add(own);
@@ -39,12 +39,14 @@ pub(super) fn tags_pass(
 }
 
 /// What tags need of their layer, where they are pairs of a key and a value, and no key comes twice:
-/// then they have no fault in a layer that has so many. `marks` keeps marks of keys, and is used again
-/// for each feature. The only error is that memory was refused.
+/// then they have no fault in a layer that has so many. None where a key is `most` or more, since the
+/// marks of keys take memory for all lesser ones. `marks` is used again for each feature. The only
+/// error is that memory was refused.
 #[inline(always)]
 fn pass_tags<N: NumberSource + Drop>(
     marks: &mut KeyMarks,
     tags: &mut N,
+    most: usize,
 ) -> Result<Option<TagNeeds>, AllocError>
     ensures { IfOk result (λ found. IfSome found (λ needs. (given : List ℕ)
         → N.Leaves tags.old given → AreGoodWith needs given)) }
@@ -55,6 +57,9 @@ fn pass_tags<N: NumberSource + Drop>(
         let Some(value) = value else {
             return Ok(None);
         };
+        if key as usize >= most {
+            return Ok(None);
+        }
         if !marks.insert(key)? {
             return Ok(None);
         }
