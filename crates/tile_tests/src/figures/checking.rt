@@ -129,7 +129,12 @@ fn far_lines(rt: HostRuntime) {
     // 2^30 to the right, and as far back
     let (right, left) = (2_147_483_648, 2_147_483_647);
     assert!(rt; draw(Kind::LineString, &[9, right, 0, 18, left, 0, right, 0]));
-    assert!(rt; draw(Kind::LineString, &[9, right, right, 10, left, left, 9, left, left, 10, 2, 0]));
+    assert!(rt;
+        draw(
+            Kind::LineString,
+            &[9, right, right, 10, left, left, 9, left, left, 10, 2, 0]
+        )
+    );
     assert!(rt;
         fail(
             Kind::LineString,
