@@ -11,7 +11,6 @@ ghost use Rattle.mvt_tile.specs.View.{kind_number};
 
 use crate::commands::Cursor;
 use crate::drawing::DrawFault;
-use crate::passing::draws_figure;
 use crate::reading::{read_path, read_points};
 use crate::sink::Nothing;
 use mvt_fault::CommandCode;
@@ -22,28 +21,7 @@ use mvt_wire::NumberSource;
 /// among them, counted from 0, or how many they are where more is due (Mapbox Vector Tile
 /// Specification 2.1, section 4.3). None where they draw one, and for a geometry of unknown kind. It
 /// takes no memory.
-pub fn command_fault<N: NumberSource + Copy + Drop>(
-    kind: Kind,
-    numbers: N,
-) -> Option<(CommandCode, usize)>
-    requires few { N.most numbers < 2 ^ 64 }
-    ensures figure { IfNone result ((given : List ℕ) → N.Leaves numbers given
-        → HasFigure (kind_number kind) given) }
-    ensures none { IfNone result ((given : List ℕ) → N.Leaves numbers given
-        → (code : CommandCode) (index : ℕ) → ¬ IsCommandFault (kind_number kind) given code index) }
-    ensures fault { IfSome result (λ fault. (given : List ℕ) → N.Leaves numbers given
-        → IsCommandFault (kind_number kind) given fault.0 fault.1) }
-{
-    // (so it is with most points and lines)
-    if draws_figure(kind, numbers) {
-        return None;
-    }
-    find_fault(kind, numbers)
-}
-
-/// The same by reading all positions.
-#[inline(never)]
-fn find_fault<N: NumberSource + Drop>(kind: Kind, numbers: N) -> Option<(CommandCode, usize)>
+pub fn command_fault<N: NumberSource + Drop>(kind: Kind, numbers: N) -> Option<(CommandCode, usize)>
     requires few { N.most numbers < 2 ^ 64 }
     ensures figure { IfNone result ((given : List ℕ) → N.Leaves numbers given
         → HasFigure (kind_number kind) given) }

@@ -15,5 +15,6 @@ mod spelling;
 pub use checking::command_fault;
 pub use drawing::{DrawFault, draw};
 pub use figure::Figure;
+pub use passing::{draws_lines, draws_points};
 pub use ring_buffer::RingBuffer;
 pub use spelling::{SpellFault, spell};

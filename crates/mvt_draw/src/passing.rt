@@ -5,12 +5,10 @@ ghost use Rattle.std.specs.Prelude.{◌≡◌, ◌+◌, ◌*◌, ◌^◌, ◌<�
 ghost use Rattle.mvt_draw.specs.Calls.Reach.{Follows, Reaches};
 ghost use Rattle.mvt_plane.specs.Commands.Drawing.{Leg, following, path_command, step_x};
 ghost use Rattle.mvt_plane.specs.Commands.Figure.{GeometryType, IsCount, command_integer, line_string, point};
-ghost use Rattle.mvt_plane.specs.Commands.Reading.{IsWhole, is_line, with_left};
-ghost use Rattle.mvt_plane.specs.FeatureGeometry.{HasFigure};
-ghost use Rattle.mvt_tile.specs.View.{kind_number};
+ghost use Rattle.mvt_plane.specs.Commands.Reading.{is_line, with_left};
+ghost use Rattle.mvt_plane.specs.FeatureGeometry.{HasFigure, type_number};
 
 use mvt_plane::{LINE_TO, MOVE_TO};
-use mvt_tile::Kind;
 use mvt_wire::NumberSource;
 
 /// The greatest sum of parameters, which is the greatest coordinate.
@@ -19,31 +17,17 @@ const FARTHEST: u64 = 1 << 30;
 /// A MoveTo to one position.
 const ONE_MOVE: u32 = 9;
 
-/// Whether the numbers are known to draw a figure of the kind. False may be said of any numbers, and is
-/// said of rings.
+/// Whether the numbers are known to draw points (section 4.3.4.2). False may be said of any numbers.
 #[inline(always)]
-pub(crate) fn draws_figure<N: NumberSource + Drop>(kind: Kind, mut source: N) -> bool
+pub fn draws_points<N: NumberSource + Drop>(mut source: N) -> bool
     ensures { IsTrue result → (given : List ℕ) → N.Leaves source given
-        → HasFigure (kind_number kind) given }
-{
-    match kind {
-        Kind::Unknown => true,
-        Kind::Point => pass_points(&mut source),
-        Kind::LineString => pass_lines(&mut source),
-        Kind::Polygon => false,
-    }
-}
-
-/// Whether the numbers are known to draw points (section 4.3.4.2).
-#[inline(always)]
-fn pass_points<N: NumberSource + Drop>(source: &mut N) -> bool
-    ensures { IsTrue result → (given : List ℕ) → N.Leaves source.old given → IsWhole point given }
+        → HasFigure (type_number point) given }
 {
     let Some(count) = count_of(source.next_number(), MOVE_TO) else {
         return false;
     };
     let mut reach = 0;
-    if !pass_steps(source, &mut reach, count, false) {
+    if !pass_steps(&mut source, &mut reach, count, false) {
         return false;
     }
     if reach > FARTHEST {
@@ -55,17 +39,18 @@ fn pass_points<N: NumberSource + Drop>(source: &mut N) -> bool
     }
 }
 
-/// Whether the numbers are known to draw lines (section 4.3.4.3).
-fn pass_lines<N: NumberSource + Drop>(source: &mut N) -> bool
-    ensures { IsTrue result → (given : List ℕ) → N.Leaves source.old given
-        → IsWhole line_string given }
+/// Whether the numbers are known to draw lines (section 4.3.4.3). False may be said of any numbers.
+#[inline(never)]
+pub fn draws_lines<N: NumberSource + Drop>(mut source: N) -> bool
+    ensures { IsTrue result → (given : List ℕ) → N.Leaves source given
+        → HasFigure (type_number line_string) given }
 {
     let Some(mut first) = source.next_number() else {
         return false;
     };
     let mut reach = 0;
     'lines: loop {
-        if !pass_line(first, source, &mut reach) {
+        if !pass_line(first, &mut source, &mut reach) {
             return false;
         }
         match source.next_number() {
@@ -156,9 +141,39 @@ fn pass_step<N: NumberSource + Drop>(source: &mut N, reach: &mut u64, line: bool
         → Reaches geometry_type numbers (N.Leaves source.new) reach.new
         (following geometry_type leg) }
 {
-    let Some((x, y)) = next_parameters(source) else {
-        return false;
-    };
+    // (each way by itself: a pair that may come from all of them is packed, and unpacked again)
+    match source.next_small_pair() {
+        Some((x, y)) => add_step(x, y, reach, line),
+        None => match source.next_short_pair() {
+            Some((x, y)) => add_step(x, y, reach, line),
+            None => match any_parameters(source) {
+                Some((x, y)) => add_step(x, y, reach, line),
+                None => false,
+            },
+        },
+    }
+}
+
+/// The next two numbers, or None where fewer are left.
+#[inline(always)]
+fn any_parameters<N: NumberSource + Drop>(source: &mut N) -> Option<(u32, u32)>
+    ensures pair { IfSome result (λ pair. (numbers : List ℕ) → N.Leaves source.old numbers
+        → (rest : List ℕ) × (numbers ≡ pair.0 ∷ pair.1 ∷ rest) × N.Leaves source.new rest) }
+    ensures fewer { IfSome result (λ _. N.most source.new ≤ N.most source.old) }
+{
+    let x = source.next_number()?;
+    let y = source.next_number()?;
+    Some((x, y))
+}
+
+/// Adds the parameters of a step. False where it is one of a LineTo and stays.
+#[inline(always)]
+fn add_step(x: u32, y: u32, reach: &mut u64, line: bool) -> bool
+    requires { reach.old < 2 ^ 63 }
+    ensures further { reach.new ≤ reach.old + 2 ^ 33 }
+    ensures adds { IsTrue result → reach.new ≡ reach.old + (x + y) }
+    ensures moves { IsTrue result → line ≡ true → 0 < x + y }
+{
     let sum = u64::from(x) + u64::from(y);
     if stays(line, sum) {
         return false;
@@ -173,32 +188,4 @@ fn stays(line: bool, sum: u64) -> bool
     ensures { IsFalse result → line ≡ true → 0 < sum }
 {
     line && sum == 0
-}
-
-/// The next two numbers, or None where fewer are left.
-#[inline(always)]
-fn next_parameters<N: NumberSource + Drop>(source: &mut N) -> Option<(u32, u32)>
-    ensures pair { IfSome result (λ pair. (numbers : List ℕ) → N.Leaves source.old numbers
-        → (rest : List ℕ) × (numbers ≡ pair.0 ∷ pair.1 ∷ rest) × N.Leaves source.new rest) }
-    ensures fewer { IfSome result (λ _. N.most source.new ≤ N.most source.old) }
-{
-    match source.next_small_pair() {
-        Some(pair) => Some(pair),
-        None => match source.next_short_pair() {
-            Some(pair) => Some(pair),
-            None => any_parameters(source),
-        },
-    }
-}
-
-/// The same, one number after the other.
-#[inline(always)]
-fn any_parameters<N: NumberSource + Drop>(source: &mut N) -> Option<(u32, u32)>
-    ensures pair { IfSome result (λ pair. (numbers : List ℕ) → N.Leaves source.old numbers
-        → (rest : List ℕ) × (numbers ≡ pair.0 ∷ pair.1 ∷ rest) × N.Leaves source.new rest) }
-    ensures fewer { IfSome result (λ _. N.most source.new ≤ N.most source.old) }
-{
-    let x = source.next_number()?;
-    let y = source.next_number()?;
-    Some((x, y))
 }

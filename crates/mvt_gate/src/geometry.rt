@@ -13,6 +13,7 @@ ghost use Rattle.mvt_rules.specs.Tile.{FeatureRecord};
 ghost use Rattle.mvt_gate.specs.Quick.{IsFreeFor};
 ghost use Rattle.mvt_gate.specs.declared.quick.Search.TheVariants as searches;
 
+use crate::figures::draws_figure;
 use crate::polygons::find_in_rings;
 use crate::quick::Search;
 use mvt_draw::{DrawFault, RingBuffer, command_fault};
@@ -70,6 +71,10 @@ impl GeometryRule {
                 self.find_in_polygons(alloc, search, profile, feature, layer, ordinal, found)
             }
             kind => {
+                // (so it is with most points and lines)
+                if draws_figure(kind, feature) {
+                    return Ok(());
+                }
                 if let Some((code, index)) = command_fault(kind, feature.geometry()) {
                     store_command(found, code, layer, ordinal, index);
                 }

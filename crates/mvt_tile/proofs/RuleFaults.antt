@@ -7,6 +7,7 @@ pub mod FreeFaults
 pub mod Gathered
 pub mod GatheredScan
 pub mod HeldPlaces
+pub mod KeyBits
 pub mod LayerFaults
 pub mod LayerNames
 pub mod Names

@@ -5,6 +5,7 @@ pub mod FeatureBytes
 pub mod FeatureRules
 pub mod FieldScan
 pub mod Gathered
+pub mod KeyMarks
 pub mod Least
 pub mod Names
 pub mod OneWalk

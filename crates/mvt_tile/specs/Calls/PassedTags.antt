@@ -1,18 +1,15 @@
 -- Tags that a pass over their pairs has gone over, and what is kept of them (Mapbox Vector Tile Specification 2.1, section 4.4).
-use Rattle.std.specs.Prelude.{◌≡◌, ◌==◌, ℕ, ◌+◌, ◌-◌, ◌*◌, ◌^◌, ◌<◌, ◌≤◌, nat_lt, Bool, true, cond, List, drop, length, slice_get, slice_index_or, Option, Some, None, MatchOption}
+use Rattle.std.specs.Prelude.{◌≡◌, ℕ, ◌+◌, ◌-◌, ◌*◌, ◌^◌, ◌<◌, ◌≤◌, nat_lt, Bool, true, cond, List, drop, length, slice_get, Option, Some, None, MatchOption}
 use Rattle.mvt_rules.specs.Rules.{TagsBreak, IsKeyAt, NoSuchKey, NoSuchValue}
 use Rattle.mvt_fault.specs.declared.tag.TagCode.{TagCode}
+use Rattle.mvt_tile.specs.Calls.KeyMarks.{is_added, is_in}
 use Rattle.mvt_tile.specs.Calls.RuleFaults.{IsFirstTagFault}
 use Rattle.mvt_tile.specs.declared.rules.key_marks.KeyMarks.{KeyMarks}
 use Rattle.mvt_tile.specs.declared.rules.tags.TagNeeds.{TagNeeds}
 
--- the mark of a key
-abbrev pub mark_of : KeyMarks → ℕ → ℕ
-mark_of set key = cond (nat_lt key 32) (slice_index_or set.first key 0) (slice_index_or set.further.items (key - 32) 0)
-
--- the key is in the set: its mark is the current one
+-- the key is in the set: its bit is 1, among the first keys or those after them
 abbrev pub has_key : KeyMarks → ℕ → Bool
-has_key set key = mark_of set key == set.current
+has_key set key = cond (nat_lt key 256) (is_in set.first key) (is_added set.current set.further.items (key - 256))
 
 -- in a layer of so many keys and values, or more, each of the tags has its key and its value
 pub record AreMetBy (needs : TagNeeds) (tags : List ℕ) : Type 0 where

@@ -31,7 +31,9 @@ impl<'a> FeatureBytes<'a> {
         let after_type = pass_part(&mut scan, &mut parts, bytes, after_tags, 0x18);
         let after_geometry = pass_part(&mut scan, &mut parts, bytes, after_type, 0x22);
         if after_geometry != part.to {
-            return FeatureBytes::scan_any(part);
+            // (into room of its own, so that the feature of the quick pass stays in registers)
+            let feature = FeatureBytes::scan_any(part)?;
+            return Some(feature);
         }
         if scan.end_fault(Message::Feature, part.to).is_some() {
             return None;

@@ -1,4 +1,4 @@
-use Rattle.std.proofs.Common.{false, refl, subst}
+use Rattle.std.proofs.Common.{refl, subst}
 use Rattle.mvt_plane.specs.Commands.Drawing.{path_command, to_first}
 use Rattle.mvt_plane.specs.Commands.Figure.{command_integer, line_string, line_to}
 use Rattle.mvt_draw.specs.Calls.Reach.{Follows, Reaches}

@@ -14,6 +14,14 @@ returns-in-Polygon c = record {
   ];
 }
 
+pub returns-then-draws_figure : goal.returns-then-draws_figure
+returns-then-draws_figure c = record {
+  kept = λ is it encodes. inl (λ profile.
+      valid_by_figure profile it (other_kind c.kind.result it c.in_default.not-Polygon (c.kind.ensures it encodes))
+      (subst (λ (n : ℕ). HasFigure n it.geometry) (c.kind.ensures it encodes) (c.draws_figure.ensures c.if-draws_figure.true it encodes)));
+  still = λ it kept. kept;
+}
+
 pub returns-in-None : goal.returns-in-None
 returns-in-None c = record {
   kept = λ is it encodes. inl (λ profile.

@@ -23,6 +23,17 @@ returns-in-Some c = rw c.store_command.ensures (record {
       (c.in-Some.ensures.fault it.geometry (c.geometry.ensures.all it encodes));
 })
 
+pub returns-then-draws_figure : goal.returns-then-draws_figure
+returns-then-draws_figure c =
+    let valid : (it : FeatureRecord) → Encodes c.args.feature.now it → IsValidGeometryBy c.args.profile it = λ it encodes.
+    valid_by_figure c.args.profile it (other_kind c.kind.result it c.in_default.not-Polygon (c.kind.ensures it encodes))
+    (subst (λ (n : ℕ). HasFigure n it.geometry) (c.kind.ensures it encodes) (c.draws_figure.ensures c.if-draws_figure.true it encodes)) in
+    record {
+      none = IfNone-any c.args.found.now (λ it encodes fault. geometry_kept c.args.profile it c.args.layer c.args.ordinal fault (valid it encodes));
+      kept = IfNone-any c.args.found.now valid;
+      found = rw c.requires tt;
+    }
+
 pub returns-in_default-command_fault : goal.returns-in_default-command_fault
 returns-in_default-command_fault c =
     let valid : (it : FeatureRecord) → Encodes c.args.feature.now it → IsValidGeometryBy c.args.profile it = λ it encodes.

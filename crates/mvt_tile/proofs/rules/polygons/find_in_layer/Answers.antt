@@ -1,4 +1,4 @@
-use Rattle.std.proofs.Common.{true, false, refl, sym, arith}
+use Rattle.std.proofs.Common.{refl, sym, arith}
 use Rattle.mvt_rules.specs.Tile.{IsFeature}
 use Rattle.mvt_rules.specs.Parts.Fields.{FitsRule}
 use Rattle.mvt_wire.specs.declared.schema.Message.TheVariants as messages

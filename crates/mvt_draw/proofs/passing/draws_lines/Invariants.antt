@@ -2,7 +2,7 @@ use Rattle.std.proofs.Common.{◌≤◌, ◌^◌, Bool, List, ℕ}
 use Rattle.mvt_plane.specs.Commands.Drawing.{path_command}
 use Rattle.mvt_plane.specs.Commands.Figure.{line_string}
 use Rattle.mvt_draw.specs.Calls.Reach.{Follows, Reaches}
-use Rattle.mvt_draw.proofs.passing.pass_lines.Given as goal
+use Rattle.mvt_draw.proofs.passing.draws_lines.Given as goal
 
 -- the lines that were passed end in the range, and lead to the number that was read last
 abbrev pub invariant-lines : goal.invariant-lines
