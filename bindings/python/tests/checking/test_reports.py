@@ -15,6 +15,7 @@ import pytest
 import mvtgate
 from checking.runs import CROSSING, EMPTY, PNG, POINT, command, environment, mbtiles, run
 from conftest import TOP, VERSION
+from mvtgate.checking.sarif import _uri as uri_of
 
 WORDS = json.loads((TOP / "bindings/faults.json").read_text())
 
@@ -50,6 +51,12 @@ def test_junit(folder: pathlib.Path, tmp_path: pathlib.Path, jobs: int) -> None:
     assert (crossing.get("type"), crossing.get("message"), crossing.text) == ("504", str(fault), mvtgate.explain(fault))
     assert WORDS["formats"]["png"]["sentence"] in str(picture.get("message")) and WORDS["formats"]["png"]["remedy"] in str(picture.text)
     assert (empty.get("type"), empty.get("message")) == ("not judged", EMPTY)
+
+
+def test_addresses_in_sarif() -> None:
+    """An address is a reference as it is, but for what no reference may have."""
+    assert uri_of("https://example.org/planet.pmtiles?v=2") == "https://example.org/planet.pmtiles?v=2"
+    assert uri_of("https://example.org/zürich town.pmtiles") == "https://example.org/z%C3%BCrich%20town.pmtiles"
 
 
 def test_junit_as_another_program_reads_it(folder: pathlib.Path, tmp_path: pathlib.Path) -> None:

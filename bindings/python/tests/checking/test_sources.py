@@ -7,6 +7,7 @@ import pathlib
 import shutil
 import sqlite3
 import subprocess
+import xml.etree.ElementTree as ElementTree
 import zlib
 from typing import Any, Dict, Iterator, List, Tuple
 
@@ -273,6 +274,24 @@ def test_names_on_one_line(tmp_path: pathlib.Path) -> None:
     said = run(*(os.fsencode(tmp_path) + b"/" + it for it in shown), *(os.fsencode(tmp_path) + b"/no" + it for it in shown))
     assert said.returncode == 3 and len(said.stdout.splitlines()) == len(shown)
     assert {it.split(": ")[1] for it in said.stderr.splitlines() if it.startswith("mvtgate-check: ")} == {f"{tmp_path}/no{it}" for it in shown.values()}
+
+
+def test_reasons_on_one_line(tmp_path: pathlib.Path) -> None:
+    """What SQLite quotes of a broken file: bytes that no terminal and no XML is to get, or that are no text."""
+    for name, table in (("a", b"z\x1b[31mz\x01"), ("b", b"z\xff")):
+        path = mbtiles(tmp_path / f"{name}.mbtiles", {(1, 0, 0): FAULT})
+        with sqlite3.connect(path) as database:
+            database.execute("PRAGMA writable_schema = ON")
+            statement = b"CREATE TABLE " + table + b"(x"
+            database.execute("UPDATE sqlite_master SET name = CAST(? AS TEXT), sql = CAST(? AS TEXT) WHERE type = 'index'", (table, statement))
+        database.close()
+    put(tmp_path / "c.mvt", FAULT)
+    said = run("--junit", tmp_path / "report.xml", tmp_path)
+    assert said.returncode == 3 and f"{tmp_path}/c.mvt: 504: " in said.stdout and "Traceback" not in said.stderr, said.stderr
+    # (all but the ends of lines)
+    assert all(it.isprintable() for it in said.stderr.splitlines()) and f"{tmp_path}/a.mbtiles: " in said.stderr and f"{tmp_path}/b.mbtiles: " in said.stderr
+    [suite] = ElementTree.parse(tmp_path / "report.xml").getroot()
+    assert (suite.get("tests"), suite.get("errors"), suite.get("failures")) == ("3", "2", "1")
 
 
 def test_names_in_another_encoding(tmp_path: pathlib.Path) -> None:

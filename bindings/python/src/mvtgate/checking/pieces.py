@@ -10,6 +10,7 @@ from typing import Any, Dict, Iterator, List, NamedTuple, Optional
 from .._files import LIMIT
 from ..planet.records import Partition
 from ..planet.sources import NotASource, Source, SourceChanged, open_source
+from .names import on_one_line
 
 
 class Raw(NamedTuple):
@@ -101,7 +102,8 @@ def reason(path: str, error: Exception) -> str:
     said = str(error)
     fronts = (f"{it}{after}" for it in (os.path.abspath(path), path) for after in (": ", " "))
     front = next((it for it in fronts if said.startswith(it)), "")
-    return said[len(front) :]
+    # (it may quote the file, which may have any bytes)
+    return on_one_line(said[len(front) :])
 
 
 @dataclass(frozen=True)

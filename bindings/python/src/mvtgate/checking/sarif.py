@@ -11,6 +11,7 @@ from typing import Any, Dict, List
 import mvtgate
 
 from .. import _words
+from ..planet.sources.pmtiles import is_address
 from .answers import Answer
 from .counts import Counts
 from .lines import PROGRAM
@@ -45,7 +46,9 @@ def _rule_of(answer: Answer) -> str:
 
 
 def _uri(path: str) -> str:
-    """The path as a reference: relative as it was named, or with the scheme of files."""
+    """The path as a reference: relative as it was named, or with the scheme of files. An address is one already."""
+    if is_address(path):
+        return urllib.parse.quote(os.fsencode(path), safe="%/:=&?~#+!$,;'@()*[]")
     if os.path.isabs(path):
         return pathlib.Path(path).as_uri()
     # (a name with a colon would be taken for a scheme)

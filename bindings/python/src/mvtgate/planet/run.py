@@ -4,6 +4,7 @@ from __future__ import annotations
 import datetime
 import itertools
 import os
+import resource
 import time
 import uuid
 from dataclasses import asdict
@@ -13,7 +14,7 @@ import mvtgate
 
 from .attendance import Attendance
 from .cluster import client_of
-from .endings import ending_of
+from .endings import Refused, ending_of
 from .journal import FORMAT, Journal
 from .mending.changes import Changes
 from .mending.copy import NoCopy, copy_of, replaced
@@ -42,12 +43,27 @@ def partition_of(tiles: int) -> int:
     return min(_MOST, max(_LEAST, -(-tiles // _PARTS)))
 
 
+# of one source that is open: its file, and the connection to it of each of several threads
+_FILES_OF_SOURCE, _FILES_BESIDE = 4, 256
+
+
+def _allow_files(sources: int) -> None:
+    """Raises the limit of open files, as far as the system lets it, where so many sources come near it: all stay open."""
+    soft, hard = resource.getrlimit(resource.RLIMIT_NOFILE)
+    wanted = sources * _FILES_OF_SOURCE + _FILES_BESIDE
+    if hard != resource.RLIM_INFINITY:
+        wanted = min(wanted, hard)
+    if soft != resource.RLIM_INFINITY and soft < wanted:
+        resource.setrlimit(resource.RLIMIT_NOFILE, (wanted, hard))
+
+
 class Run:
     """Surveys the sources, which takes a walk over their index, and then judges what an earlier run into the folder left."""
 
     def __init__(self, settings: Settings) -> None:
         require_parts()
         self.settings = settings
+        _allow_files(len(settings.paths))
         self._sources = [open_source(path, settings.window) for path in settings.paths]
         self._began = time.monotonic()
         self._name = uuid.uuid4().hex
@@ -138,9 +154,17 @@ class Run:
             os.makedirs(folder, exist_ok=True)
         except OSError as error:
             raise ending_of(error) from None
+        self._expect_folders()
         seconds = time.monotonic() - self._began
         path = os.path.join(folder, "journal.jsonl")
         return Journal(path, self._members, self.settings.is_anew, seconds, self._begin)
+
+    def _expect_folders(self) -> None:
+        """What is written at the end has to have its folder from the beginning, lest all is judged for nothing."""
+        for path in filter(None, (self.settings.junit, self.settings.mend)):
+            folder = os.path.dirname(os.path.abspath(path))
+            if not (os.path.isdir(folder) and os.access(folder, os.W_OK | os.X_OK)):
+                raise Refused(f"{path}: there is no folder {folder} that can be written to")
 
     def _begin(self) -> None:
         """Before a run begins, and not where it goes on."""

@@ -129,7 +129,8 @@ class EarlierRun:
             if _overlap(it, partition, self._is_by_ids[partition.source]):
                 judged = self._judged(at)
                 known.blocks.append(self._store.read(*judged.sums))
-                known.findings.extend(finding.members() for finding in judged.findings)
+                # (what that run mended stays in the tile that this one looks at)
+                known.findings.extend({**finding.members(), "mending": None} for finding in judged.findings)
                 known.advice.extend(judged.advice)
         return known
 

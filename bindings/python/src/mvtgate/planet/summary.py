@@ -7,6 +7,7 @@ from typing import TYPE_CHECKING, Any, Dict, Iterator, Tuple
 from xml.sax.saxutils import escape, quoteattr
 
 from .. import _words
+from ..checking.names import on_one_line
 from .outputs import SUMMARY, Counts
 from .settings import Settings
 from .whole_file import WholeFile
@@ -65,7 +66,7 @@ def _junit(report: Report, counts: Counts) -> Iterator[str]:
 def _case(report: Report, key: Tuple[int, int], cells: ZoomCells) -> str:
     """A zoom of a source: it fails where a tile has a fault, and is an error where one couldn't be judged."""
     source, zoom = key
-    path = str(report.run["sources"][source]["path"]).encode("utf-8", "backslashreplace").decode()
+    path = on_one_line(str(report.run["sources"][source]["path"]))
     case = f"<testcase classname={quoteattr(path)} name={quoteattr(f'zoom {zoom}')}"
     if cells.faulty:
         title = _words.words_of_fault(cells.worst)["title"]

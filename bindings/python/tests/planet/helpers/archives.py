@@ -137,6 +137,7 @@ class _Handler(http.server.BaseHTTPRequestHandler):
         site = self.server
         with site.lock:
             site.requests += 1
+            site.asked = self.path
             failing = site.failing > 0
             site.failing -= failing
         if failing or not told:
@@ -168,6 +169,7 @@ class WebServer(http.server.ThreadingHTTPServer):
     def __init__(self, data: bytes) -> None:
         super().__init__(("127.0.0.1", 0), _Handler)
         self.data, self.tag, self.has_ranges, self.failing, self.cut, self.requests = data, '"1"', True, 0, 0, 0
+        self.asked = ""
         self.lock = threading.Lock()
 
     @property

@@ -13,7 +13,7 @@ import mvtgate
 from conftest import SAMPLES, YES, Sample
 from mvtgate import Fault, Profile
 from planet.helpers.planets import Planet, full_zoom, names_by_reader
-from planet.helpers.runs import REFUSED, SAMPLE, VALID, Run, Tile, expect_whole, journal, place, records, run, write_database
+from planet.helpers.runs import PROGRAM, REFUSED, SAMPLE, VALID, VALID_STATUS, Run, Tile, expect_whole, journal, place, records, run, write_database
 
 ZOOM = 7
 WORKERS_AND_PARTITION = [(2, 20), (1, 4000), (3, 1)]
@@ -158,3 +158,21 @@ def test_output_that_cannot_be_made(tmp_path: pathlib.Path, planet: Planet) -> N
     (tmp_path / "out").write_text("a file")
     it = run(tmp_path / "out", planet.path)
     assert (it.process.returncode, it.said) == (REFUSED, [f"mvtgate-planet: {tmp_path / 'out'}: File exists"])
+
+
+@pytest.mark.parametrize("word", ["--junit", "--mend"])
+def test_no_folder_for_what_is_written_at_the_end(tmp_path: pathlib.Path, word: str) -> None:
+    """It is told before anything is judged."""
+    path = write_database(tmp_path / "a.mbtiles", [Tile(0, 0, 0, VALID)])
+    made = tmp_path / "nowhere/made.mbtiles"
+    it = run(tmp_path / "out", path, word, made)
+    assert (it.process.returncode, it.said) == (REFUSED, [f"mvtgate-planet: {made}: there is no folder {made.parent} that can be written to"])
+    assert not (it.output / "journal.jsonl").exists()
+
+
+def test_more_sources_than_files_that_may_be_open(tmp_path: pathlib.Path, scheduler: str) -> None:
+    paths = [write_database(tmp_path / f"{number}.mbtiles", [Tile(0, 0, 0, VALID)]) for number in range(200)]
+    (tmp_path / "names").write_text("".join(f"{it}\n" for it in paths))
+    few = ["sh", "-c", 'ulimit -S -n 128; exec "$@"', "sh", *PROGRAM]
+    it = Run(tmp_path / "out", "--list", tmp_path / "names", "--scheduler", scheduler, program=few)
+    assert it.end() == VALID_STATUS, it.stderr

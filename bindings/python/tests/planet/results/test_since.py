@@ -120,6 +120,17 @@ def test_since_and_mend(earlier: Tuple[Planet, Run], tmp_path: pathlib.Path, sch
     assert summary(it)["mended"]["tiles"] > 0 and summary(it)["mended"]["tiles"] + summary(it)["mended"]["staying"] == len(planet.lines)
 
 
+def test_since_a_run_that_mended(tmp_path: pathlib.Path) -> None:
+    """What that run mended is in its copy, and not in the file that is judged again."""
+    path = write_database(tmp_path / "planet.mbtiles", [Tile(1, 0, 0, VALID), Tile(1, 1, 0, FAULT)])
+    before = run(tmp_path / "first", path, "--mend", tmp_path / "made.mbtiles")
+    assert before.process.returncode == VALID_STATUS and summary(before)["mended"]["tiles"] == 1, before.stderr
+    it = run(tmp_path / "second", path, "--since", tmp_path / "first")
+    assert it.process.returncode == FAULTY and reused(it) == 2, it.stderr
+    [line] = records(it.output / "faults.jsonl")
+    assert "mended" not in line and line["fault"]["code"] == 504
+
+
 @pytest.mark.parametrize("words", [["--profile", "feature"], ["--all"], ["--advice"], ["--layer", "water"]], ids=" ".join)
 def test_other_words(earlier: Tuple[Planet, Run], tmp_path: pathlib.Path, words: List[str]) -> None:
     planet, before = earlier

@@ -4,7 +4,9 @@ from __future__ import annotations
 import dataclasses
 import gzip
 import json
+import os
 import pathlib
+import re
 import struct
 import subprocess
 import sys
@@ -161,6 +163,19 @@ def test_hostile_directories(tmp_path: pathlib.Path, data: Hostile, why: str) ->
         open_source(str(tmp_path / "a.pmtiles")).survey()
 
 
+@pytest.mark.parametrize("is_root", [True, False])
+def test_long_directories(tmp_path: pathlib.Path, is_root: bool) -> None:
+    """Nothing is reserved for a length that can't be that of a directory, and the archive is named."""
+    path, length = tmp_path / "a.pmtiles", 1 << 39
+    whole = of_entries((0, 0, 0, length))
+    # (the header has offset and length of the root at 8, and of the leaf directories at 40)
+    at = 8 if is_root else 40
+    path.write_bytes(whole[:at] + struct.pack("<QQ", len(whole), length) + whole[at + 16 :])
+    os.truncate(path, len(whole) + length)
+    with pytest.raises(NotASource, match=f"^{re.escape(str(path))}: a directory is larger than 2097152 bytes$"):
+        open_source(str(path)).survey()
+
+
 @pytest.mark.parametrize(
     ("data", "why"),
     [
@@ -210,6 +225,15 @@ def archive_of_samples(tmp_path: pathlib.Path) -> bytes:
 @pytest.mark.usefixtures("quick_pauses")
 class TestWeb:
     """The same from a web server by ranges."""
+
+    def test_names(self, archive_of_samples: bytes) -> None:
+        """Letters that aren't ASCII, and spaces, are sent as their bytes; what is sent so already stays."""
+        for server in serving(archive_of_samples):
+            top = server.address.rpartition("/")[0]
+            for name, sent in [("zürich town.pmtiles?at=ü%20#top", "/z%C3%BCrich%20town.pmtiles?at=%C3%BC%20"), ("z%C3%BC.pmtiles", "/z%C3%BC.pmtiles")]:
+                assert open_source(f"{top}/{name}").survey() and server.asked == sent
+            with pytest.raises(NotASource, match="IPv6"):
+                open_source("http://[::1/a.pmtiles")
 
     def test_tiles(self, archive_of_samples: bytes) -> None:
         for server in serving(archive_of_samples):

@@ -79,7 +79,8 @@ class Mbtiles(Source):
                 # (whichever thread clears away a query that isn't read to its end. Dask's profile holds on to them for a while.)
                 self._of_thread.database = sqlite3.connect(self._uri, uri=True, check_same_thread=False)
             yield from self._of_thread.database.execute(query, words)
-        except sqlite3.Error as error:
+        except (sqlite3.Error, UnicodeDecodeError) as error:
+            # (an error of SQLite may quote what is no text)
             raise NotASource(f"{self.path}: {error}") from None
 
     def _require_index(self) -> None:

@@ -11,7 +11,7 @@ from ...records import Extent, Partition
 from ...window import LAST_ZOOM, Window
 from ..source import NotASource, Source, SourceChanged, Stored
 from .blocks import Blocks
-from .directory import Entry, entries_of
+from .directory import LIMIT as LIMIT_OF_DIRECTORY, Entry, entries_of
 from .header import SIZE, Header, Section
 from .ids import Box, box_of, first_id, id_of, ids_within, place_of
 from .ranges import is_address, ranges_of
@@ -81,13 +81,22 @@ class Pmtiles(Source):
     @functools.cached_property
     def _root(self) -> List[Entry]:
         offset, length = self.header.root
-        packed = self._head[offset : offset + length] if offset + length <= len(self._head) else self.ranges.read(offset, length)
-        return entries_of(packed, self.header.directories)
+        try:
+            packed = self._head[offset : offset + length] if offset + length <= len(self._head) else self._packed(offset, length)
+            return entries_of(packed, self.header.directories)
+        except NotASource as error:
+            raise NotASource(f"{self.path}: {error}") from None
+
+    def _packed(self, offset: int, length: int) -> bytes:
+        """A directory as it is stored. Nothing is reserved for a length that was read and can't be right."""
+        if length > 2 * LIMIT_OF_DIRECTORY:
+            raise NotASource(f"a directory is larger than {LIMIT_OF_DIRECTORY} bytes")
+        return self.ranges.read(offset, length)
 
     def _read_leaf(self, level: _Level) -> List[Entry]:
         if level.offset + level.length > self.header.leaves.length:
             raise NotASource("a leaf directory is beyond the end of its part of the archive")
-        packed = self.ranges.read(self.header.leaves.offset + level.offset, level.length)
+        packed = self._packed(self.header.leaves.offset + level.offset, level.length)
         return entries_of(packed, self.header.directories, level.first, level.after)
 
     def _below(self, entries: List[Entry], at: int, after: int) -> _Level:

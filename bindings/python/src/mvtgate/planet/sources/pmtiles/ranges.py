@@ -90,7 +90,7 @@ class WebRanges(Ranges):
     """A file on a web server. The server has to answer ranges, and the file has to stay as it is."""
 
     def __init__(self, address: str) -> None:
-        self._address = address
+        self._address, self._url = address, _url_of(address)
         first = self._ask(0, 1)
         self._size, self._tag = first.size, first.tag
 
@@ -132,7 +132,7 @@ class WebRanges(Ranges):
     def _answer(self, offset: int, length: int) -> _Answer:
         last = offset + length - 1
         headers = {"Range": f"bytes={offset}-{last}", "Accept-Encoding": "identity"}
-        with urllib.request.urlopen(urllib.request.Request(self._address, headers=headers), timeout=_SECONDS) as answer:
+        with urllib.request.urlopen(urllib.request.Request(self._url, headers=headers), timeout=_SECONDS) as answer:
             if answer.status != 206:
                 raise NotASource(f"{self._address}: the server answers without ranges (status {answer.status})")
             told = _CONTENT_RANGE.fullmatch(answer.headers.get("Content-Range", ""))
@@ -142,6 +142,16 @@ class WebRanges(Ranges):
             if len(data) != length:
                 raise _Cut(f"the server sent {len(data)} of {length} bytes")
             return _Answer(data, int(told[3]), answer.headers.get("ETag") or answer.headers.get("Last-Modified"))
+
+
+def _url_of(address: str) -> str:
+    """The address with all but ASCII, and spaces, as %XX. What names a place in the page that it is isn't sent."""
+    try:
+        parts = urllib.parse.urlsplit(address)
+    except ValueError as error:
+        raise NotASource(f"{address}: {error}") from None
+    path, query = (urllib.parse.quote(os.fsencode(it), safe="%/:=&?~+!$,;'@()*") for it in (parts.path, parts.query))
+    return parts._replace(path=path, query=query, fragment="").geturl()
 
 
 class _Cut(Exception):
