@@ -20,7 +20,7 @@ export class Held {
     [this.#asked, this.#answer, this.#limit] = [asked, answer, limit];
     this.#own = Object.fromEntries(HELD.map((name) => [name, answer[name]]));
     answer.writeHead = (...given) => this.#writeHead(...given);
-    answer.flushHeaders = () => {};
+    answer.flushHeaders = () => this.#flushHeaders();
     answer.write = (...given) => this.#write(...given);
     answer.end = (...given) => this.#end(...given);
   }
@@ -46,6 +46,12 @@ export class Held {
     const pairs = Array.isArray(headers) ? headers.flatMap((name, at) => (at % 2 ? [] : [[name, headers[at + 1]]])) : Object.entries(headers);
     for (const [name, value] of pairs) this.#answer.setHeader(name, value);
     return this.#answer;
+  }
+
+  #flushHeaders() {
+    if (this.#isTile()) return;
+    this.#letGo();
+    this.#answer.flushHeaders();
   }
 
   #write(part, ...rest) {

@@ -18,6 +18,11 @@ test('each sample in hexadecimal', () => {
   for (const { tile } of SAMPLES) if (tile.length) assert.deepEqual(bytesOfText(Buffer.from(tile).toString('hex')), tile);
 });
 
+test('a large tile', () => {
+  const bytes = new Uint8Array(8 << 20).fill(0x1a);
+  for (const text of [Buffer.from(bytes).toString('hex'), Buffer.from(bytes).toString('base64')]) assert.deepEqual(bytesOfText(text), bytes);
+});
+
 test('long base64 is read whatever its first byte is', () => {
   const bytes = Uint8Array.from({ length: 60 }, (_, at) => 255 - at);
   assert.deepEqual(bytesOfText(Buffer.from(bytes).toString('base64')), bytes);

@@ -48,6 +48,15 @@ def test_layers(shown: Page) -> None:
     assert "polygon" in second and "point" in second
 
 
+def test_many_layers(page: Page, tmp_path: pathlib.Path) -> None:
+    """The first ones are listed, and what comes after the list is still shown."""
+    path = tmp_path / "layers.mvt"
+    path.write_bytes(layer("a", [], [], []) * 150_000)
+    page.choose(path)
+    assert page.text("contents-summary") == "The tile has 150,000 layers with 0 features."
+    assert len(page.texts("#layers .layer-name")) == 1000 and page.texts("#layers > li")[-1] == "and 149,000 more layers"
+
+
 def test_keys_and_values(shown: Page) -> None:
     shown.script("document.querySelectorAll('#layers details').forEach((it) => { it.open = true })")
     shown.until("return document.querySelectorAll('#layers ol').length === 4")

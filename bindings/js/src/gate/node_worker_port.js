@@ -27,9 +27,9 @@ export class NodeWorker {
    * @param {any[]} moved
    */
   postMessage(message, moved) {
+    this.#worker.postMessage(message, moved);
     this.#asked += 1;
     this.#worker.ref();
-    this.#worker.postMessage(message, moved);
   }
 
   terminate() {

@@ -91,7 +91,12 @@ export class RemoteGate {
     return new Promise((resolve, reject) => {
       const id = this.#asked++;
       this.#waiting.set(id, { resolve, reject });
-      this.#worker.postMessage({ id, call, given }, moved);
+      try {
+        this.#worker.postMessage({ id, call, given }, moved);
+      } catch (error) {
+        this.#waiting.delete(id);
+        throw error;
+      }
     });
   }
 
@@ -107,7 +112,8 @@ export class RemoteGate {
    */
   async ask(call, tile, others, isGiven = false) {
     if (this.#isBroken) this.#replace();
-    const isAlone = tile.byteLength === tile.buffer.byteLength && tile.buffer instanceof ArrayBuffer;
+    // (one that was handed over before has no bytes any more, and can't be copied)
+    const isAlone = tile.byteLength > 0 && tile.byteLength === tile.buffer.byteLength && tile.buffer instanceof ArrayBuffer;
     const moved = isGiven && isAlone ? tile : withMemory(() => new Uint8Array(tile));
     return this.#ask(call, [moved, ...others], [moved.buffer]);
   }

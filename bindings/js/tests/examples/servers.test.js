@@ -5,6 +5,7 @@ import { existsSync, writeFileSync } from 'node:fs';
 import http from 'node:http';
 import { after, test } from 'node:test';
 import { gunzipSync, gzipSync } from 'node:zlib';
+import { tileGate } from '../../examples/tile_gate.js';
 import { load } from '../../src/node.js';
 import { freshFolder, install, packed } from '../package/installed.js';
 import { sample } from '../samples.js';
@@ -104,3 +105,18 @@ for (const script of ['http_server.js', 'express_server.js']) {
     assert.deepEqual(all.map(({ status }) => status), all.map((_, at) => (at % 3 ? 500 : 200)));
   });
 }
+
+test('the head of what is no tile is sent as soon as it is flushed', async (context) => {
+  const gateOf = tileGate(/** @type {any} */ ({}));
+  const server = http.createServer((asked, answer) => gateOf(asked, answer, () => {
+    answer.writeHead(200, { 'Content-Type': 'text/event-stream' });
+    answer.flushHeaders();
+  }));
+  context.after(() => server.closeAllConnections());
+  context.after(() => server.close());
+  await new Promise((resolve) => { server.listen(0, '127.0.0.1', () => resolve(null)); });
+  const { port } = /** @type {import('node:net').AddressInfo} */ (server.address());
+  const answer = await new Promise((resolve, reject) => { http.get({ port, host: '127.0.0.1' }, resolve).on('error', reject); });
+  assert.equal(answer.headers['content-type'], 'text/event-stream');
+  answer.destroy();
+});

@@ -67,6 +67,18 @@ test('a tile is left as it is, unless it is handed over', async (context) => {
   assert.equal(tile.length, 0);
 });
 
+test('a tile that was handed over before is refused, and the next call answered', async (context) => {
+  const pool = await loadPool({ size: 1 });
+  context.after(() => pool.close());
+  const tile = new Uint8Array(sample('crossing_edges'));
+  const [first, second] = await Promise.allSettled([pool.check(tile, { transfer: true }), pool.check(tile, { transfer: true })]);
+  assert.equal(first.status === 'fulfilled' && first.value?.code, 504);
+  assert.ok(second.status === 'rejected' && second.reason instanceof TypeError);
+  await assert.rejects(pool.check(tile, { profile: 'feature', transfer: true }), TypeError);
+  assert.equal(await pool.check(new Uint8Array(0), { transfer: true }), null);
+  assert.equal((await pool.check(sample('crossing_edges')))?.code, 504);
+});
+
 test('a call that is ended, and the ones that wait behind it', async (context) => {
   const pool = await loadPool({ size: 1 });
   context.after(() => pool.close());

@@ -84,6 +84,13 @@ test('another process uses the pool, the pictures and the module', () => {
   assert.deepEqual(said.split('\n'), ['true', 'mended', readFileSync(`${TOP}VERSION`, 'utf8').trim(), '']);
 });
 
+test('a bundler keeps the worker that is imported for what it does', { skip: spawnSync('esbuild', ['--version']).status !== 0 && 'there is no esbuild' }, () => {
+  writeFileSync(`${folder}/own_worker.js`, "import 'mvtgate/worker';\n");
+  const { status, stdout, stderr } = spawnSync('esbuild', ['--bundle', '--format=esm', 'own_worker.js'], { cwd: folder, encoding: 'utf8' });
+  assert.deepEqual([status, stderr], [0, '']);
+  assert.match(stdout, /addEventListener\("message"/);
+});
+
 test("the README's lines", () => {
   const text = readFileSync(`${TOP}bindings/js/README.md`, 'utf8');
   const [, script] = /```js\n([\s\S]*?)```/.exec(text) ?? [];

@@ -11,9 +11,13 @@ import { counted, digits } from '../tools/text.js';
 /** How many keys, and how many values, are listed of a layer. */
 const LISTED = 200;
 
+/** How many layers are listed. Tiles have a few; a million would take a browser's memory. */
+const LISTED_LAYERS = 1000;
+
 export class LayerList {
   /** @type {HTMLInputElement[]} */
   #boxes = [];
+  #count = 0;
   #list;
   #changed;
 
@@ -26,15 +30,18 @@ export class LayerList {
     this.#changed = changed;
   }
 
-  /** The layers that are chosen. */
+  /** The layers that are chosen: those that aren't listed are. */
   get chosen() {
-    return new Set([...this.#boxes.keys()].filter((layer) => this.#boxes[layer].checked));
+    const chosen = new Set();
+    for (let layer = 0; layer < this.#count; layer++) if (this.#boxes[layer]?.checked ?? true) chosen.add(layer);
+    return chosen;
   }
 
   /** @param {Layer[]} layers */
   show(layers) {
-    this.#boxes = [];
-    this.#list.replaceChildren(...layers.map((layer) => this.#line(layer)));
+    [this.#boxes, this.#count] = [[], layers.length];
+    const rest = layers.length > LISTED_LAYERS ? element('li', {}, `and ${counted(layers.length - LISTED_LAYERS, 'more layer')}`) : '';
+    this.#list.replaceChildren(...layers.slice(0, LISTED_LAYERS).map((layer) => this.#line(layer)), rest);
   }
 
   /** @param {Layer} layer */

@@ -14,7 +14,8 @@ const FIRST_BYTES = new Set([0x1a, 0x1f, 0x78]);
  */
 export function bytesOfText(text) {
   const letters = text.trim().replace(/^data:[^,]*;base64,/, '').replace(HEX_MARKS, '').replace(/'$/, '').replace(/[\s:]/g, '');
-  if (/^([0-9a-f]{2})+$/i.test(letters)) return bytesOfHex(letters);
+  // (a group that is repeated would take the stack for each of millions)
+  if (letters.length > 0 && letters.length % 2 === 0 && !/[^0-9a-f]/i.test(letters)) return bytesOfHex(letters);
   if (PLACE.test(text.trim()) || !/^[\w+/-]{2,}={0,2}$/.test(letters)) return null;
   const bytes = bytesOrNull(letters);
   return bytes && (FIRST_BYTES.has(bytes[0]) || letters.length >= LEAST_LETTERS) ? bytes : null;
