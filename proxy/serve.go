@@ -7,6 +7,7 @@ import (
 	"net/http"
 	"os"
 	"runtime/debug"
+	"syscall"
 	"time"
 
 	"mvtgate-proxy/internal/bounds"
@@ -33,11 +34,25 @@ type server struct {
 	health    *health
 }
 
+// tcpUserTimeout is TCP_USER_TIMEOUT of Linux, which package syscall doesn't name.
+const tcpUserTimeout = 18
+
+// dialer makes connections that end where the other side doesn't confirm what is sent for so long. A server that has gone without a
+// word would otherwise be asked by HTTP/2 over the same connection for a quarter of an hour.
+func dialer(unconfirmed time.Duration) *net.Dialer {
+	return &net.Dialer{Timeout: dialTime, KeepAlive: 30 * time.Second, Control: func(_, _ string, connection syscall.RawConn) error {
+		return connection.Control(func(socket uintptr) {
+			// (a system that doesn't know it does without)
+			_ = syscall.SetsockoptInt(int(socket), syscall.IPPROTO_TCP, tcpUserTimeout, int(unconfirmed.Milliseconds()))
+		})
+	}}
+}
+
 func newServer(it *settings) *server {
 	metrics := telling.NewMetrics()
 	made := &server{settings: it, metrics: metrics, log: telling.NewLog(os.Stderr, it.logLines, metrics.LeftOut)}
 	made.transport = &http.Transport{
-		DialContext:            (&net.Dialer{Timeout: dialTime, KeepAlive: 30 * time.Second}).DialContext,
+		DialContext:            dialer(it.upstreamTime).DialContext,
 		TLSHandshakeTimeout:    dialTime,
 		ResponseHeaderTimeout:  it.upstreamTime,
 		DisableCompression:     true,

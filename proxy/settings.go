@@ -149,6 +149,9 @@ func (it *settings) check() error {
 	if err != nil || upstream.Host == "" || upstream.Scheme != "http" && upstream.Scheme != "https" {
 		return fmt.Errorf("--upstream is to be a URL such as http://127.0.0.1:3000, and is %q", it.upstream)
 	}
+	if upstream.User != nil {
+		return errors.New("--upstream has a name or a password, which wouldn't be sent to the server")
+	}
 	it.url = upstream
 	paths, err := regexp.Compile(it.paths)
 	if err != nil {

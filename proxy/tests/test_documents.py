@@ -4,6 +4,7 @@ from __future__ import annotations
 import os
 import pathlib
 import re
+import signal
 import subprocess
 from typing import Dict, List
 
@@ -45,6 +46,18 @@ def test_settings_of_the_documents_are_flags() -> None:
     assert {*packaged, *shown} <= names and "MVTGATE_PROXY_UPSTREAM" in packaged
     assert unit("EnvironmentFile") == ["/etc/default/mvtgate-proxy"] and unit("ExecStart") == ["/usr/bin/mvtgate-proxy"] and unit("Type") == ["notify"]
     assert set(re.findall(r"`--([a-z-]+)[ `]", DOCUMENT)) <= {*flags(), "help"}
+
+
+def test_a_crash_is_not_taken_for_wrong_settings() -> None:
+    """The unit starts again what ended by a signal, and not what ended with 2."""
+    assert unit("RestartPreventExitStatus") == ["2"]
+    environment = {**os.environ, **dict(it.split("=", 1) for it in unit("Environment"))}
+    words = until_death(PROGRAM, "--upstream", "http://127.0.0.1:9", "--listen", "127.0.0.1:0", "--admin", "")
+    with subprocess.Popen(words, env=environment, stderr=subprocess.PIPE, text=True) as process:
+        assert process.stderr is not None and "listening" in process.stderr.readline()
+        process.send_signal(signal.SIGQUIT)
+        said = process.stderr.read()
+    assert process.returncode == -signal.SIGABRT and "goroutine" in said
 
 
 def test_the_manual_page_and_the_completion_have_all_flags() -> None:

@@ -183,6 +183,7 @@ def said(*words: str, **environment: str) -> "subprocess.CompletedProcess[str]":
         [],
         ["--upstream", "127.0.0.1:3000"],
         ["--upstream", "ftp://a"],
+        ["--upstream", "http://name:secret@a"],
         ["--upstream", "http://a", "more"],
         ["--upstream", "http://a", "--mode", "repair"],
         ["--upstream", "http://a", "--profile", "polygons"],

@@ -201,6 +201,37 @@ def test_an_upgrade_that_is_not_made_lets_no_tile_by(path: str) -> None:
         assert gate.get(path, asked).status == 500
 
 
+def test_no_tunnel_of_h2c_is_made() -> None:
+    """What goes through it isn't judged, so the server isn't offered it, and answers by HTTP/1.1."""
+    with upstream(lambda it: reply(f"{sorted({'connection', 'upgrade', 'http2-settings'} & set(it.headers))}".encode())) as server, proxy(server.url) as gate:
+        answer = gate.get("/tiles.json", {"Connection": "Upgrade, HTTP2-Settings", "Upgrade": "h2c", "HTTP2-Settings": "AAMAAABkAAQAoAAAAAIAAAAA"})
+        assert (answer.status, answer.body) == (200, b"[]")
+
+
+@pytest.mark.parametrize("path", [TILE, ELSEWHERE])
+def test_a_part_that_nobody_asked_for(path: str) -> None:
+    """It isn't all of a tile, so it isn't judged, and is told of or refused."""
+    part = reply(FAULTY, status="206 Partial Content", Content_Type=TILE_TYPE, Content_Range=f"bytes 0-{len(FAULTY) - 1}/{len(FAULTY)}")
+    with upstream(lambda _: part) as server:
+        for mode in ("refuse", "mend"):
+            with proxy(server.url, "--mode", mode) as gate:
+                answer = gate.get(path)
+                assert (answer.status, answer.json()["unjudged"]) == (502, "upstream_cut")
+        with proxy(server.url, "--mode", "report") as gate:
+            answer = gate.get(path)
+            assert (answer.status, answer.body, answer.headers["X-Tile-Fault"]) == (206, FAULTY, '{"unjudged":"upstream_cut"}')
+
+
+def test_a_condition_on_a_picture_at_the_address_of_a_tile() -> None:
+    """The server isn't asked for it, and so the proxy answers it."""
+    picture = reply(b"png", Content_Type="image/png", ETag='"one"', Last_Modified=DATE)
+    with upstream(lambda _: picture) as server, proxy(server.url, "--mode", "refuse") as gate:
+        for condition in ({"If-None-Match": '"one"'}, {"If-Modified-Since": DATE}):
+            answer = gate.get("/satellite/1/2/3", condition)
+            assert (answer.status, answer.body, answer.headers["Etag"]) == (304, b"", '"one"')
+        assert gate.get("/satellite/1/2/3", {"If-None-Match": '"two"'}).body == b"png"
+
+
 @pytest.mark.parametrize("status", ["201 Created", "203 Non-Authoritative Information"])
 def test_other_statuses_of_a_whole_tile_let_no_tile_by(status: str) -> None:
     with upstream(lambda _: reply(FAULTY, status=status, Content_Type=TILE_TYPE)) as server, proxy(server.url, "--mode", "refuse") as gate:

@@ -43,6 +43,11 @@ func (it *exchange) run() (*http.Response, error) {
 		return it.refused(err, response.Header)
 	}
 	if !isTile {
+		// (the client's condition wasn't asked of the server, since the address could have been that of a tile)
+		if isAddress && response.StatusCode == http.StatusOK && isNotModified(it.asked.Header, response.Header) {
+			limit.end(response)
+			return it.sent(response.Header, nil, func() {}), nil
+		}
 		return it.untouched(response, limit), nil
 	}
 	if isWhole(response, first) {
@@ -92,19 +97,28 @@ func (it *exchange) again(first *http.Response) (*http.Response, error) {
 	if err != nil {
 		return it.refused(err, first.Header)
 	}
+	if response.StatusCode == http.StatusPartialContent {
+		// (that nobody asked for)
+		return it.unread(response, limit, gate.Cut)
+	}
 	if !hasAll(response) {
 		return it.untouched(response, limit), nil
 	}
 	if _, isKnown := tiles.EncodingOf(response.Header); isKnown {
 		return it.tile(response, limit)
 	}
+	return it.unread(response, limit, gate.Encoding)
+}
+
+// unread is the answer in place of a tile that can't be read.
+func (it *exchange) unread(response *http.Response, limit *patience, reason *gate.Unjudged) (*http.Response, error) {
 	if it.Mode == Report {
-		it.tellUnjudged(gate.Encoding, telling.Reported)
-		response.Header.Set(faultHeader, reasonText(gate.Encoding))
+		it.tellUnjudged(reason, telling.Reported)
+		response.Header.Set(faultHeader, reasonText(reason))
 		return it.untouched(response, limit), nil
 	}
 	limit.end(response)
-	return it.refused(gate.Encoding, response.Header)
+	return it.refused(reason, response.Header)
 }
 
 // isTile says whether an answer is a tile, or a part of one, or says that the client has one. Where it doesn't say its type, the

@@ -22,6 +22,7 @@ func (it *Relay) Proxy(upstream *url.URL, host string, errors *log.Logger) http.
 	direct := proxy.Director
 	proxy.Director = func(request *http.Request) {
 		forwarded(request)
+		stayByRequests(request)
 		direct(request)
 		if host != "" {
 			request.Host = host
@@ -45,6 +46,14 @@ func forwarded(request *http.Request) {
 	}
 	if request.Header.Get("X-Forwarded-Proto") == "" {
 		request.Header.Set("X-Forwarded-Proto", "http")
+	}
+}
+
+// stayByRequests has the upstream server answer by HTTP/1.1 where a client offers h2c, as that of Java does: what goes through such a
+// connection isn't judged.
+func stayByRequests(request *http.Request) {
+	if strings.Contains(strings.ToLower(request.Header.Get("Upgrade")), "h2c") {
+		request.Header.Del("Upgrade")
 	}
 }
 

@@ -11,7 +11,10 @@ const (
 	lengthDelimited        = 2
 )
 
-// LayerName is the name of a layer by its ordinal, or "" where the tile's bytes have none that can be read.
+// mostName is the bytes of the longest name of a layer that is told: a tile may have one that is as long as itself.
+const mostName = 1000
+
+// LayerName is the name of a layer by its ordinal, or "" where the tile's bytes have none that can be read, or a very long one.
 func LayerName(tile []byte, ordinal uint64) string {
 	for len(tile) > 0 {
 		number, payload, rest, isWhole := field(tile)
@@ -35,7 +38,7 @@ func nameOf(layer []byte) string {
 		if !isWhole {
 			return ""
 		}
-		if number == nameField && payload != nil && utf8.Valid(payload) {
+		if number == nameField && payload != nil && len(payload) <= mostName && utf8.Valid(payload) {
 			return string(payload)
 		}
 		layer = rest

@@ -2,6 +2,7 @@ package tiles
 
 import (
 	"bytes"
+	"encoding/binary"
 	"encoding/json"
 	"errors"
 	"io"
@@ -131,6 +132,16 @@ func TestTheNamesOfLayersAreThoseOfTheDump(t *testing.T) {
 		}
 		if LayerName(tile, uint64(len(dumped.Layers))) != "" {
 			t.Error(path)
+		}
+	}
+}
+
+func TestAVeryLongNameIsNotTold(t *testing.T) {
+	for length, wanted := range map[int]int{mostName: mostName, mostName + 1: 0, 1 << 20: 0} {
+		layer := append(binary.AppendUvarint([]byte{nameField<<3 | lengthDelimited}, uint64(length)), make([]byte, length)...)
+		tile := append(binary.AppendUvarint([]byte{layersField<<3 | lengthDelimited}, uint64(len(layer))), layer...)
+		if got := len(LayerName(tile, 0)); got != wanted {
+			t.Error(length, got)
 		}
 	}
 }
