@@ -7,8 +7,7 @@ use Rattle.std.specs.Io.KnownBytes.{Appends, Consumes, Keeps}
 use Rattle.mvt_engine.specs.declared.engine.TheConstants.{CHUNK_LENGTH, INPUT_LIMIT}
 use Rattle.mvt_engine.specs.declared.tally.Tally.{Tally}
 use Rattle.mvt_engine.specs.Engine.{IsClean, ReadsBytes, Writes, interruption_limit}
-use Rattle.mvt_engine.specs.Tally.{Counts, counts_of, tally_bytes}
-use Rattle.mvt_engine.specs.Calls.Tally.{after_bytes}
+use Rattle.mvt_engine.specs.Tally.{Counts, after_bytes, counts_of, tally_bytes}
 
 -- the input so far is what the reader gave so far, and the chunk has its whole length
 pub record Reading {T : Type 0} (known : T → Option (List ℕ)) (old new : Tally T) (chunk input : List ℕ) (others : ℕ) : Type 0 where

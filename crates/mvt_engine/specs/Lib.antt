@@ -4,7 +4,6 @@ pub use Rattle.mvt_wire.specs.Field
 pub use Rattle.mvt_wire.specs.Message
 pub use Rattle.mvt_rules.specs.Tile
 pub mod AdviceText
-pub mod Calls
 pub mod Claim
 pub mod Confirm
 pub mod Dump

@@ -1,5 +1,5 @@
 -- What a tally has counted, and the device that it passes its calls on to.
-use Rattle.std.specs.Prelude.{◌≡◌, ℕ, List, Option}
+use Rattle.std.specs.Prelude.{◌≡◌, ℕ, ◌+◌, ◌-◌, ◌^◌, min, List, Option}
 use Rattle.mvt_engine.specs.declared.tally.Tally.{Tally}
 
 -- bytes moved, calls that failed and calls that were interrupted
@@ -28,3 +28,19 @@ no_counts = record { bytes = 0; failed = 0; interrupted = 0 }
 pub record IsUntouched {T : Type 0} (old new : Tally T) : Type 0 where
   pub device : device_of new ≡ device_of old
   pub counts : counts_of new ≡ no_counts
+
+-- a count that stays at the greatest `u64`
+abbrev pub raised : ℕ → ℕ → ℕ
+raised count by = min (count + by) (2 ^ 64 - 1)
+
+-- the counts after a call that moved n bytes
+abbrev pub after_bytes : Counts → ℕ → Counts
+after_bytes counts n = record counts { bytes = raised counts.bytes n }
+
+-- the counts after a call that failed
+abbrev pub after_failure : Counts → Counts
+after_failure counts = record counts { failed = raised counts.failed 1 }
+
+-- the counts after a call that was interrupted
+abbrev pub after_interruption : Counts → Counts
+after_interruption counts = record counts { interrupted = raised counts.interrupted 1 }

@@ -17,8 +17,7 @@ pub struct Tally<T> {
 }
 
 impl<T> Tally<T> {
-    ghost use Rattle.mvt_engine.specs.Tally.{counts_of, device_of, no_counts};
-    ghost use Rattle.mvt_engine.specs.Calls.Tally.{after_bytes, after_failure, after_interruption};
+    ghost use Rattle.mvt_engine.specs.Tally.{after_bytes, after_failure, after_interruption, counts_of, device_of, no_counts};
 
     /// A tally of a device, on which nothing was counted yet.
     pub fn new(device: T) -> Self
@@ -95,8 +94,7 @@ impl<T> Tally<T> {
 }
 
 impl<T: Read> Read for Tally<T> {
-    ghost use Rattle.mvt_engine.specs.Tally.{counts_of, tally_bytes};
-    ghost use Rattle.mvt_engine.specs.Calls.Tally.{after_bytes, after_failure, after_interruption};
+    ghost use Rattle.mvt_engine.specs.Tally.{after_bytes, after_failure, after_interruption, counts_of, tally_bytes};
 
     ghost remaining = { tally_bytes T.remaining };
 
@@ -125,8 +123,7 @@ impl<T: Read> Read for Tally<T> {
 }
 
 impl<T: Write> Write for Tally<T> {
-    ghost use Rattle.mvt_engine.specs.Tally.{counts_of, tally_bytes};
-    ghost use Rattle.mvt_engine.specs.Calls.Tally.{after_bytes, after_failure, after_interruption};
+    ghost use Rattle.mvt_engine.specs.Tally.{after_bytes, after_failure, after_interruption, counts_of, tally_bytes};
 
     ghost contents = { tally_bytes T.contents };
 

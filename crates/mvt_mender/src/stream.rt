@@ -1,6 +1,6 @@
 //! The engine of `mend`: it reads a tile, and writes a valid one and what was changed.
 ghost use Rattle.std.specs.Prelude.{◌≡◌, ◌≢◌, ◌+◌, ◌≤◌, IfOk, IfErr, OnErr, OnOk, string_bytes};
-ghost use Rattle.mvt_engine.specs.Engine.{ReaderShows, interruption_limit};
+ghost use Rattle.mvt_engine.specs.Engine.{IsClean, ReaderShows, interruption_limit};
 ghost use Rattle.mvt_engine.specs.Tally.{IsUntouched, counts_of, no_counts};
 ghost use Rattle.mvt_mender.specs.Report.{report_line};
 ghost use Rattle.mvt_mender.specs.Stream.{AnswersTwice, BreaksOffTwice, HasFailedOnce, HasLineFailed, IsLineClean, IsMendAnswerBy, LineBreaksOff, LineGoes};
@@ -33,6 +33,7 @@ pub fn mend_stream<R: Read, W: Write, V: Write, E: Write>(
     ensures answers { IfOk result (AnswersTwice (IsMendAnswerBy profile drop_unmended)
         R.remaining W.contents V.contents E.contents reader.old reader.new writer.old writer.new
         report.old report.new errors.old errors.new) }
+    ensures tile_clean { OnOk result (IsClean writer.new (counts_of reader.new).interrupted) }
     ensures clean { IfOk result (λ outcome. IsLineClean outcome report.new errors.new
         ((counts_of reader.new).interrupted + (counts_of writer.new).interrupted)) }
 

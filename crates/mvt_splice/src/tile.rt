@@ -20,8 +20,8 @@ use std::alloc::{AllocError, Global};
 ///
 /// A new geometry is written as one packed field, in the place of the first that stated the old one.
 /// The keys and lengths of that feature, and of each layer that a change names, are written anew, in
-/// the shortest form. All other fields, those that the specification doesn't know among them, are
-/// copied byte for byte, in their order.
+/// the shortest form. (The contract leaves the place and the form open.) All other fields, those that
+/// the specification doesn't know among them, are copied byte for byte, in their order.
 ///
 /// Time and memory are linear in the sizes of both. The only error is that memory was refused.
 pub fn splice(alloc: Global, bytes: &[u8], changes: &[Change]) -> Result<Vec<u8>, AllocError>

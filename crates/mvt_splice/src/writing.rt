@@ -1,6 +1,6 @@
 //! Writes varints and fields after other bytes (Protocol Buffers encoding, "Base 128 Varints" and
 //! "Message Structure").
-ghost use Rattle.std.specs.Prelude.{◌≡◌, ◌∷◌, [], ◌≤◌, ◌<◌, length, IfOk, OnOk};
+ghost use Rattle.std.specs.Prelude.{◌∷◌, [], ◌≤◌, ◌<◌, length, IfOk, OnOk};
 ghost use Rattle.mvt_wire.specs.Number.{VarintList};
 ghost use Rattle.mvt_splice.specs.Splice.{Piece, HasPayload};
 ghost use Rattle.mvt_splice.specs.Calls.Writing.{WritesVarint, WritesFields};

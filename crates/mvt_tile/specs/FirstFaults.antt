@@ -23,7 +23,7 @@ pub data IsFirstOfPart (IsFree : Frees) (IsBroken : Breaks) (tile : TileRecord) 
   of_feature : (layer feature : ℕ) (layer_record : LayerRecord) (feature_record : FeatureRecord) → IsFeatureOf tile layer feature layer_record feature_record
       → IsLeastOr IsFree (IsFaultOfFeature IsBroken layer_record feature_record layer feature) fault → IsFirstOfPart IsFree IsBroken tile fault
 
--- the first place comes before the second by the first three numbers, which say of which layer or feature it is
+-- the first place comes before the second by the first three numbers, which say of which feature it is, or of which layer with the code
 pub record IsOfEarlierPart (place other : List ℕ) : Type 0 where
   pub first : ComesFirst (take 3 place) (take 3 other)
   pub differ : take 3 place ≢ take 3 other

@@ -10,7 +10,7 @@ use crate::record::{Layer, Tile};
 use repeated::{first_equal_ids, first_equal_keys};
 use std::alloc::{AllocError, Global};
 
-/// What may be a mistake in a tile that keeps every rule. Ordinals count from 0.
+/// What may be a mistake in a tile, though no rule forbids it. Ordinals count from 0.
 #[derive(Clone, Copy, Debug, PartialEq, Eq)]
 pub enum Advice {
     /// The tile has no layer.

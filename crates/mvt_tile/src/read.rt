@@ -1,5 +1,5 @@
 //! A tile's records, read from its bytes.
-ghost use Rattle.std.specs.Prelude.{◌≡◌, ◌≤◌, ℕ, List, ◌∷◌, [], ◌++◌, length, map, IfOk, IfErr, OnOk};
+ghost use Rattle.std.specs.Prelude.{List, ◌∷◌, [], ◌++◌, map, IfOk, IfErr, OnOk};
 ghost use Rattle.mvt_wire.specs.Embedded.{LiesIn};
 ghost use Rattle.mvt_wire.specs.Field.{Entry, entry_of};
 ghost use Rattle.mvt_rules.specs.Tile.{TileRecord, IsTile, LayerRecord, IsLayer};

@@ -37,7 +37,7 @@ const ALL: &str =
 
 /// What the help says of the flag that asks for a quick verdict.
 const QUICK: &str =
-    "Answers in bounded time: where edges of a feature meet, polygons in others are passed over";
+    "Answers in bounded time: where edges of a feature meet, any meeting may be named in place of its first fault";
 
 /// What the help says of the flag that asks for advice.
 const ADVICE: &str =

@@ -1,7 +1,7 @@
 //! What the definitions say of a known tile: each statement is one that a slip in a definition would
 //! make false.
 
-ghost use Rattle.std.specs.Prelude.{◌≡◌, ◌≢◌, ℕ, [], ◌∷◌, Vec};
+ghost use Rattle.std.specs.Prelude.{◌≡◌, ℕ, [], ◌∷◌, Vec};
 ghost use Rattle.std.specs.declared.alloc.Global.{Global};
 ghost use Rattle.mvt_rules.specs.Valid.{ValidBy};
 ghost use Rattle.mvt_fault.specs.declared.profile.Profile.TheVariants.{Polygon};

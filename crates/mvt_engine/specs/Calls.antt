@@ -1,2 +1,0 @@
--- Definitions that only state contracts of private functions. No public contract rests on them.
-pub mod Tally
