@@ -254,7 +254,7 @@ pub fn dump(tile: &[u8]) -> Result<String, DumpError> {
 /// As [`check`] does.
 pub fn advise(tile: &[u8]) -> Result<Vec<Advice>, DumpError> {
     let text = describe(tile, ffi::TEXT_ROOM, "mvtgate_advise", ffi::advise)?;
-    Ok(advice::read(&text).unwrap_or_else(|| unknown_text(&text)))
+    Ok(advice::read(&text)?.unwrap_or_else(|| unknown_text(&text)))
 }
 
 /// The version of the library, which needn't be that of this crate.
