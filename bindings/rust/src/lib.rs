@@ -17,8 +17,9 @@
 //!
 //! # Linking
 //!
-//! `build.rs` links the static library of `bindings/c/out` in the repository, or the library in the folder that the
-//! environment variable `MVTGATE_LIB_DIR` names, or the one that pkg-config knows. The library is for x86-64 Linux.
+//! `build.rs` links the library in the folder that the environment variable `MVTGATE_LIB_DIR` names by its absolute path.
+//! Where that isn't set, it is the one in `bindings/c/out` of the repository, or else the one that pkg-config knows. In a
+//! folder the static library comes before the shared one. The library is for x86-64 Linux.
 
 mod advice;
 mod code;
