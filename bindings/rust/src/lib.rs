@@ -54,6 +54,9 @@ const LIST_ROOM: usize = 65_536;
 /// Where they are longer, there is one of their own length.
 const MORE_ROOM: usize = 4_096;
 
+/// In bytes: the longest room that a dump begins with. A longer text has one of its own length.
+const DUMP_ROOM: usize = 16 << 20;
+
 /// None where the bytes are a valid tile by the profile, else the first fault. Where several pairs of edges of one
 /// polygon meet, any one of these is reported.
 ///
@@ -238,8 +241,10 @@ pub fn confirm_text(tile: &[u8], text: impl AsRef<[u8]>, profile: Profile) -> Re
 /// ```
 pub fn dump(tile: &[u8]) -> Result<String, DumpError> {
     // (a number of one byte becomes two or three characters; the names of members come on top)
-    let guess = tile.len().saturating_mul(4).saturating_add(ffi::TEXT_ROOM);
-    describe(tile, guess, "mvtgate_dump", ffi::dump)
+    let guess = tile.len().saturating_mul(4).saturating_add(ffi::TEXT_ROOM).min(DUMP_ROOM);
+    let mut text = describe(tile, guess, "mvtgate_dump", ffi::dump)?;
+    text.shrink_to_fit();
+    Ok(text)
 }
 
 /// What no rule forbids in a tile and may still be a mistake, in the order of the layers. Like [`dump`] it asks only that
@@ -309,6 +314,7 @@ fn mend_with(tile: &[u8], profile: Profile, is_dropping: bool) -> Result<Mended<
             1 => return Err(MendError::Refused(read_fault(&report[..report_length]))),
             ffi::MENDED => {
                 out.truncate(length);
+                out.shrink_to_fit();
                 let changes = read_changes(&report[..report_length])?;
                 return Ok(Mended { tile: Cow::Owned(out), changes });
             }
