@@ -91,6 +91,14 @@ func TestAValueThatIsNoFaultHasAText(t *testing.T) {
 	}
 }
 
+func TestAdviceOfNoKindHasWords(t *testing.T) {
+	for _, it := range []mvtgate.Advice{{}, {Kind: "other", Layer: 1}} {
+		if it.String() != it.Kind+": No advice has this kind." || it.Title() == "" || it.Place() != "" || strings.Count(it.Explain(), "\n") != 4 {
+			t.Error(it.Explain())
+		}
+	}
+}
+
 func TestATextThatIsNoFaultIsToldFromAFaultThatIsNotTrue(t *testing.T) {
 	tile := []byte("\x1a\x05")
 	for text, wanted := range map[string]struct {
