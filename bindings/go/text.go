@@ -138,8 +138,11 @@ func (it *member) append(text []byte) []byte {
 // MarshalJSON is [Fault.Text].
 func (it Fault) MarshalJSON() ([]byte, error) { return []byte(it.Text()), nil }
 
-// UnmarshalJSON reads what [ParseFault] reads.
+// UnmarshalJSON reads what [ParseFault] reads, and leaves the fault as it is where the text is null.
 func (it *Fault) UnmarshalJSON(text []byte) error {
+	if string(text) == "null" {
+		return nil
+	}
 	read, err := ParseFault(text)
 	if err == nil {
 		*it = *read
