@@ -10,6 +10,8 @@ const (
 	listRoom = 65536
 	// In bytes: room for what a mended tile may have beyond the bytes of the one that was refused, and for the report on it.
 	moreRoom = 4096
+	// In bytes: the longest room that a dump begins with. A longer text has one of its own length.
+	dumpRoom = 16 << 20
 )
 
 // Check is nil where the bytes are a valid tile by the profile. Otherwise it is the tile's first [*Fault], or [ErrOutOfMemory].
@@ -84,7 +86,12 @@ func ConfirmText(tile, text []byte, profile Profile) (bool, error) {
 // where they aren't, the error is their first [*Fault], of code 101 to 111.
 func Dump(tile []byte) (json.RawMessage, error) {
 	// (a number of one byte becomes two or three characters; the names of members come on top)
-	return described(dump, tile, 4*len(tile)+textRoom)
+	first := 4*len(tile) + textRoom
+	if first > dumpRoom {
+		first = dumpRoom
+	}
+	text, err := described(dump, tile, first)
+	return trimmed(text), err
 }
 
 // Advise is what no rule forbids in a tile and may still be a mistake, in the order of the layers; often nothing. Like [Dump] it
@@ -133,11 +140,19 @@ func mend(tile []byte, profile Profile, drop bool) (*Mended, error) {
 			return nil, faultOfLibrary(report[:reportLength])
 		case status == statusMended:
 			changes, err := readChanges(report[:reportLength])
-			return &Mended{Tile: out[:length], Changes: changes}, err
+			return &Mended{Tile: trimmed(out[:length]), Changes: changes}, err
 		case status == statusNoRoom && (length > wanted || reportLength > reportWanted):
 			wanted, reportWanted = length, reportLength
 		default:
 			return nil, failure(status, profile)
 		}
 	}
+}
+
+// trimmed is the same bytes, in a room of their own where they fill less than half of theirs: who keeps them keeps all of it.
+func trimmed(it []byte) []byte {
+	if len(it) < cap(it)/2 {
+		return append([]byte{}, it...)
+	}
+	return it
 }
