@@ -39,6 +39,19 @@ func TestACheckOfAValidTileTakesNoneOfGosHeap(t *testing.T) {
 	}
 }
 
+func TestAListTakesFewPiecesOfGosHeapForEachFault(t *testing.T) {
+	const count = 3000
+	tile := bytes.Repeat(layer(1, ""), count)
+	taken := testing.AllocsPerRun(10, func() {
+		if listed, err := mvtgate.Faults(tile, mvtgate.ProfilePolygon); len(listed) != count {
+			t.Fatal(len(listed), err)
+		}
+	})
+	if taken > 5*count {
+		t.Errorf("%v pieces of memory for %d faults", taken, count)
+	}
+}
+
 // unknownField is a field of so many bytes and some more, which a tile and a feature may have.
 func unknownField(length int) []byte {
 	return field([]byte{0xa2, 0x01}, make([]byte, length))

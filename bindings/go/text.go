@@ -164,6 +164,9 @@ func ParseFault(text []byte) (*Fault, error) {
 }
 
 func readFault(text []byte) (*Fault, error) {
+	if fault := readSpelled(text); fault != nil {
+		return fault, nil
+	}
 	var found map[string]json.RawMessage
 	if err := json.Unmarshal(text, &found); err != nil {
 		return nil, err
