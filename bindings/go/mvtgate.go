@@ -15,7 +15,8 @@ const (
 )
 
 // Check is nil where the bytes are a valid tile by the profile. Otherwise it is the tile's first [*Fault], or [ErrOutOfMemory].
-// Where several pairs of edges of one polygon meet, any one of these is reported.
+// Where several pairs of edges of one polygon meet, any one of these is reported. For a profile that isn't one of the two it is an
+// error that says so, and a [*VersionError] where the library that is linked is of another version.
 //
 // So nil alone says that a tile may be published. Take the fault out by [errors.As].
 func Check(tile []byte, profile Profile) error {
@@ -118,12 +119,16 @@ func described(call judge, tile []byte, first int) ([]byte, error) {
 // What is mended are features of polygons with a fault of 501 to 507, or 402 or 406. Each vertex of a mended feature is within 2
 // units of one of its old edges, along both axes. Where the tile has another fault, or a feature can't be mended, the tile is
 // refused: the error is its [*Fault].
+//
+// By [ProfileFeature] this can take the square of the vertices, also after a quick check: bound the tile's length.
 func Mend(tile []byte, profile Profile) (*Mended, error) {
 	return mend(tile, profile, false)
 }
 
 // MendOrDrop is the same, but features that can't be mended are left out, and named among the changes. So a tile with no other
 // faults than those of polygons always comes out valid.
+//
+// By [ProfileFeature] this can take the square of the vertices, also after a quick check: bound the tile's length.
 func MendOrDrop(tile []byte, profile Profile) (*Mended, error) {
 	return mend(tile, profile, true)
 }
