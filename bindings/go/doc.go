@@ -15,9 +15,9 @@
 // to be listed, 54 times for advice and 21 times for a dump. To be mended they take 144 bytes more for each vertex, of which there is
 // one in two bytes at most: 103 times. Where it is refused a call says so ([ErrOutOfMemory]).
 //
-// Go's heap has the answers, and the rooms that the library writes them to: for Mend the tile's length and 8 KiB; for Dump 4 times
-// that length, but at most 16 MiB, and where the text is longer what it takes. Where these are refused the process ends, as
-// everywhere in Go.
+// Go's heap has the answers, a list some 200 bytes for each fault, and the rooms that the library writes them to: for Mend the
+// tile's length and 8 KiB; for Dump 4 times that length, but at most 16 MiB, and where the text is longer what it takes. Where these
+// are refused the process ends, as everywhere in Go.
 //
 // # Linking
 //

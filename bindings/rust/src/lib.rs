@@ -16,7 +16,8 @@
 //!
 //! Where memory is refused, a call says so, and nothing is known of the tile. The worst tiles that were tried take 31 times
 //! their bytes to be judged, 46 times to be listed, 54 times for advice and 21 times for a dump. To be mended they take 144
-//! bytes more for each vertex, of which there is one in two bytes at most: 103 times. The answer takes its own on top.
+//! bytes more for each vertex, of which there is one in two bytes at most: 103 times. The answer takes its own on top, a list
+//! 112 bytes for each fault.
 //!
 //! # Linking
 //!

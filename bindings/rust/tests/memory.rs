@@ -19,7 +19,8 @@ struct Scarce;
 impl Scarce {
     /// Whether a list or a text may not be so long. Unlike a text a list is aligned.
     fn refuses(size: usize, align: usize) -> bool {
-        size > if align > 1 { LONGEST_LIST.with(Cell::get) } else { LONGEST_TEXT.with(Cell::get) }
+        let longest = if align > 1 { &LONGEST_LIST } else { &LONGEST_TEXT };
+        size > longest.with(Cell::get)
     }
 }
 
