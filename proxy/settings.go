@@ -15,6 +15,7 @@ import (
 
 	"mvtgate"
 
+	"mvtgate-proxy/internal/gate"
 	"mvtgate-proxy/internal/relay"
 	"mvtgate-proxy/internal/tiles"
 )
@@ -25,8 +26,8 @@ const (
 	environment = "MVTGATE_PROXY_"
 	// ZOOM/COLUMN/ROW with the endings of vector tiles, or with none.
 	tilePaths = `/[0-9]+/[0-9]+/[0-9]+(\.(mvt|pbf|vector\.pbf))?$`
-	// A judgement takes up to 32 times a tile's length, beside the tile and the room that it is unpacked into.
-	lengthsOfWork = 40
+	// So many times its length a tile takes beside what it is judged in: as it was sent, unpacked, and in the room that grows for it.
+	lengthsOfTile = 8
 )
 
 // bytes is a flag for a size: a number of bytes, or of K, M or G (1024, its square, its cube).
@@ -88,7 +89,7 @@ func flagsOf(it *settings) *flag.FlagSet {
 	flags.StringVar(&it.host, "host", "", "the `NAME` in the Host header upstream; the client's where it is empty")
 	flags.TextVar(&it.maxPacked, "max-packed", bytes(64<<20), "the longest tile as it is sent, in bytes (`SIZE`)")
 	flags.TextVar(&it.maxTile, "max-tile", bytes(64<<20), "the longest tile when it is unpacked, in bytes (`SIZE`)")
-	flags.TextVar(&it.memory, "memory", bytes(4<<30), "the bytes (`SIZE`) that tiles may take together; at least 40 times the longest tile")
+	flags.TextVar(&it.memory, "memory", bytes(4<<30), "the bytes (`SIZE`) that tiles may take together; at least 40 times the longest tile, with --mode mend up to 1G more")
 	flags.IntVar(&it.judgements, "judgements", runtime.NumCPU(), "how many tiles are judged at one time")
 	flags.DurationVar(&it.judgeWait, "judge-wait", 10*time.Second, "how long a tile waits for its turn")
 	flags.DurationVar(&it.upstreamTime, "upstream-time", 30*time.Second, "how long the upstream server may take for a tile, or for the headers of other content")
@@ -169,13 +170,29 @@ func (it *settings) check() error {
 	if it.judgeWait < 0 || it.upstreamTime <= 0 || it.clientTime <= 0 || it.drainTime < 0 {
 		return errors.New("times are to be above 0")
 	}
-	if least := lengthsOfWork * it.maxTile; it.memory < least || it.memory < 2*it.maxPacked {
+	if least := bytes(it.leastMemory()); it.memory < least || it.memory < 2*it.maxPacked {
 		return fmt.Errorf("--memory is %d, and a tile of --max-tile may take %d: give more, or a lower --max-tile and --max-packed", it.memory, least)
 	}
 	if _, err := url.ParseRequestURI(it.healthPath); err != nil || !strings.HasPrefix(it.healthPath, "/") {
 		return fmt.Errorf("--health-path is to be a path such as /, and is %q", it.healthPath)
 	}
 	return nil
+}
+
+// leastMemory is how many bytes the longest tile may take.
+func (it *settings) leastMemory() int64 {
+	longest := int64(it.maxTile)
+	most := gate.JudgingMemory(longest)
+	if it.mode == relay.Mend {
+		longestMended := longest
+		if it.profile == mvtgate.ProfileFeature && longestMended > gate.LongestMendedByFeature {
+			longestMended = gate.LongestMendedByFeature
+		}
+		if mending := gate.MendingMemory(longestMended); mending > most {
+			most = mending
+		}
+	}
+	return most + lengthsOfTile*longest
 }
 
 // healthURL is what /healthz asks for: the path below the upstream server's URL.

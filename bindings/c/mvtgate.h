@@ -92,7 +92,7 @@ int mvtgate_faults_quickly(uint32_t profile, const uint8_t *tile, size_t tile_le
 /* Mends a tile by a profile: where only polygons break the rules (501 to 507, and 402 or 406 of a feature of polygons), it writes
  * a valid tile in which all else is byte for byte as it was. Each vertex of a mended feature is within 2 units of one of its old
  * edges, along both axes. Where `drop` isn't 0, features that can't be mended are left out; so a tile with no other faults is
- * never refused.
+ * never refused. By FEATURE this can take the square of the vertices, also after a quick check: bound the tile's length.
  *
  * MVTGATE_VALID       the tile is valid, and the caller has its bytes: nothing is written. Both lengths are 0.
  * MVTGATE_MENDED      it is not. A valid tile is at the front of `out`, and *out_length is its length. The report, JSON as the

@@ -16,20 +16,27 @@ type Advice struct {
 	Second uint64 `json:"second"`
 }
 
+func (it Advice) words() *words {
+	if known := wordsOfAdvice[it.Kind]; known != nil {
+		return known
+	}
+	return &words{title: "No advice", sentence: "No advice has this kind."}
+}
+
 // Title is what the kind means, in some words.
-func (it Advice) Title() string { return wordsOfAdvice[it.Kind].title }
+func (it Advice) Title() string { return it.words().title }
 
 // Sentence is what it is, with its numbers.
-func (it Advice) Sentence() string { return fill(wordsOfAdvice[it.Kind].sentence, it.places()) }
+func (it Advice) Sentence() string { return fill(it.words().sentence, it.places()) }
 
 // Place is where it is, in words.
-func (it Advice) Place() string { return fill(wordsOfAdvice[it.Kind].place, it.places()) }
+func (it Advice) Place() string { return fill(it.words().place, it.places()) }
 
 // Cause is what causes it in practice.
-func (it Advice) Cause() string { return wordsOfAdvice[it.Kind].cause }
+func (it Advice) Cause() string { return it.words().cause }
 
 // Remedy is what a writer of tiles can do about it.
-func (it Advice) Remedy() string { return wordsOfAdvice[it.Kind].remedy }
+func (it Advice) Remedy() string { return it.words().remedy }
 
 // String is the kind and the sentence.
 func (it Advice) String() string { return it.Kind + ": " + it.Sentence() }

@@ -3,7 +3,8 @@ package mvtgate
 import "errors"
 
 var (
-	// ErrOutOfMemory says that memory was refused. Nothing is known of the tile, so it must not be published.
+	// ErrOutOfMemory says that memory was refused to the library. Nothing is known of the tile, so it must not be published. Where
+	// the rooms in Go's heap for a mended tile, a dump or a list are refused, the process ends.
 	ErrOutOfMemory = errors.New("mvtgate: out of memory")
 	// ErrEmpty is for a tile of no bytes, by [CheckNotEmpty] alone.
 	ErrEmpty = errors.New("mvtgate: the tile has no bytes")

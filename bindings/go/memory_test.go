@@ -2,6 +2,7 @@ package mvtgate_test
 
 import (
 	"bytes"
+	"encoding/binary"
 	"errors"
 	"os"
 	"os/exec"
@@ -35,6 +36,55 @@ func TestTheTileIsNotCopied(t *testing.T) {
 func TestACheckOfAValidTileTakesNoneOfGosHeap(t *testing.T) {
 	if taken := testing.AllocsPerRun(1000, func() { _ = mvtgate.Check(turned, mvtgate.ProfilePolygon) }); taken >= 1 {
 		t.Errorf("%v pieces of memory for each check", taken)
+	}
+}
+
+func TestAListTakesFewPiecesOfGosHeapForEachFault(t *testing.T) {
+	const count = 3000
+	tile := bytes.Repeat(layer(1, ""), count)
+	taken := testing.AllocsPerRun(10, func() {
+		if listed, err := mvtgate.Faults(tile, mvtgate.ProfilePolygon); len(listed) != count {
+			t.Fatal(len(listed), err)
+		}
+	})
+	if taken > 5*count {
+		t.Errorf("%v pieces of memory for %d faults", taken, count)
+	}
+}
+
+// unknownField is a field of so many bytes and some more, which a tile and a feature may have.
+func unknownField(length int) []byte {
+	return field([]byte{0xa2, 0x01}, make([]byte, length))
+}
+
+// field is one with this key, and a length in front of its bytes.
+func field(key, payload []byte) []byte {
+	head := binary.AppendUvarint(append([]byte{}, key...), uint64(len(payload)))
+	return append(head, payload...)
+}
+
+func TestADumpTakesNoRoomByTheLengthOfTheTile(t *testing.T) {
+	tile := unknownField(32 << 20)
+	before := allocated()
+	text, err := mvtgate.Dump(tile)
+	if taken := allocated() - before; err != nil || taken > 17<<20 {
+		t.Errorf("%d bytes of Go's heap for a tile of %d: %v", taken, len(tile), err)
+	}
+	if string(text) != `{"layers":[]}` || cap(text) > 100 {
+		t.Error(len(text), cap(text))
+	}
+}
+
+func TestAMendedTileKeepsNoMoreThanItsBytes(t *testing.T) {
+	// a feature of polygons that draws no ring, and so is left out
+	long := field([]byte{0x12}, append([]byte{0x18, 3, 0x22, 3, 1, 50, 34}, unknownField(1<<20)...))
+	tile := field([]byte{0x1a}, append([]byte{0x78, 2, 0x0a, 1, 'a'}, long...))
+	mended, err := mvtgate.MendOrDrop(tile, mvtgate.ProfilePolygon)
+	if err != nil || !bytes.Equal(mended.Tile, noFeature) {
+		t.Fatal(err)
+	}
+	if cap(mended.Tile) > 100 {
+		t.Error(cap(mended.Tile))
 	}
 }
 

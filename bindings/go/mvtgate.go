@@ -10,10 +10,13 @@ const (
 	listRoom = 65536
 	// In bytes: room for what a mended tile may have beyond the bytes of the one that was refused, and for the report on it.
 	moreRoom = 4096
+	// In bytes: the longest room that a dump begins with. A longer text has one of its own length.
+	dumpRoom = 16 << 20
 )
 
 // Check is nil where the bytes are a valid tile by the profile. Otherwise it is the tile's first [*Fault], or [ErrOutOfMemory].
-// Where several pairs of edges of one polygon meet, any one of these is reported.
+// Where several pairs of edges of one polygon meet, any one of these is reported. For a profile that isn't one of the two it is an
+// error that says so, and a [*VersionError] where the library that is linked is of another version.
 //
 // So nil alone says that a tile may be published. Take the fault out by [errors.As].
 func Check(tile []byte, profile Profile) error {
@@ -84,7 +87,12 @@ func ConfirmText(tile, text []byte, profile Profile) (bool, error) {
 // where they aren't, the error is their first [*Fault], of code 101 to 111.
 func Dump(tile []byte) (json.RawMessage, error) {
 	// (a number of one byte becomes two or three characters; the names of members come on top)
-	return described(dump, tile, 4*len(tile)+textRoom)
+	first := 4*len(tile) + textRoom
+	if first > dumpRoom {
+		first = dumpRoom
+	}
+	text, err := described(dump, tile, first)
+	return trimmed(text), err
 }
 
 // Advise is what no rule forbids in a tile and may still be a mistake, in the order of the layers; often nothing. Like [Dump] it
@@ -111,12 +119,16 @@ func described(call judge, tile []byte, first int) ([]byte, error) {
 // What is mended are features of polygons with a fault of 501 to 507, or 402 or 406. Each vertex of a mended feature is within 2
 // units of one of its old edges, along both axes. Where the tile has another fault, or a feature can't be mended, the tile is
 // refused: the error is its [*Fault].
+//
+// By [ProfileFeature] this can take the square of the vertices, also after a quick check: bound the tile's length.
 func Mend(tile []byte, profile Profile) (*Mended, error) {
 	return mend(tile, profile, false)
 }
 
 // MendOrDrop is the same, but features that can't be mended are left out, and named among the changes. So a tile with no other
 // faults than those of polygons always comes out valid.
+//
+// By [ProfileFeature] this can take the square of the vertices, also after a quick check: bound the tile's length.
 func MendOrDrop(tile []byte, profile Profile) (*Mended, error) {
 	return mend(tile, profile, true)
 }
@@ -133,11 +145,19 @@ func mend(tile []byte, profile Profile, drop bool) (*Mended, error) {
 			return nil, faultOfLibrary(report[:reportLength])
 		case status == statusMended:
 			changes, err := readChanges(report[:reportLength])
-			return &Mended{Tile: out[:length], Changes: changes}, err
+			return &Mended{Tile: trimmed(out[:length]), Changes: changes}, err
 		case status == statusNoRoom && (length > wanted || reportLength > reportWanted):
 			wanted, reportWanted = length, reportLength
 		default:
 			return nil, failure(status, profile)
 		}
 	}
+}
+
+// trimmed is the same bytes, in a room of their own where they fill less than half of theirs: who keeps them keeps all of it.
+func trimmed(it []byte) []byte {
+	if len(it) < cap(it)/2 {
+		return append([]byte{}, it...)
+	}
+	return it
 }

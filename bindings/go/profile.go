@@ -10,7 +10,7 @@ const (
 	ProfilePolygon Profile = 0
 	// ProfileFeature asks also that the polygons of one feature don't cross, touch or lie in each other, but for a polygon in
 	// another's hole. For a tile that is made for it [Check] can take a time that grows as the square of its size: judge tiles of
-	// others by [CheckQuickly] and [FaultsQuickly].
+	// others by [CheckQuickly] and [FaultsQuickly]. [Mend] can take as long, and has no quick form: bound the tile's length.
 	ProfileFeature Profile = 1
 )
 

@@ -138,8 +138,11 @@ func (it *member) append(text []byte) []byte {
 // MarshalJSON is [Fault.Text].
 func (it Fault) MarshalJSON() ([]byte, error) { return []byte(it.Text()), nil }
 
-// UnmarshalJSON reads what [ParseFault] reads.
+// UnmarshalJSON reads what [ParseFault] reads, and leaves the fault as it is where the text is null.
 func (it *Fault) UnmarshalJSON(text []byte) error {
+	if string(text) == "null" {
+		return nil
+	}
 	read, err := ParseFault(text)
 	if err == nil {
 		*it = *read
@@ -161,6 +164,9 @@ func ParseFault(text []byte) (*Fault, error) {
 }
 
 func readFault(text []byte) (*Fault, error) {
+	if fault := readSpelled(text); fault != nil {
+		return fault, nil
+	}
 	var found map[string]json.RawMessage
 	if err := json.Unmarshal(text, &found); err != nil {
 		return nil, err

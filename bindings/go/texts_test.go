@@ -67,6 +67,25 @@ func TestSpacesAndTheOrderOfKeysDoNotMatter(t *testing.T) {
 	}
 }
 
+func TestAFaultThatIsThereOrNotComesBackFromJSON(t *testing.T) {
+	type answer struct {
+		Kept  mvtgate.Fault
+		Other *mvtgate.Fault
+	}
+	fault := mvtgate.Fault{Code: 105, Scope: mvtgate.ScopeLayer, At: 7, Field: 3, Layer: 2}
+	for _, it := range []answer{{Kept: fault}, {Kept: fault, Other: &mvtgate.Fault{Code: 201}}} {
+		text, err := json.Marshal(it)
+		var back answer
+		if err != nil || json.Unmarshal(text, &back) != nil || back.Kept != it.Kept || (back.Other == nil) != (it.Other == nil) || it.Other != nil && *back.Other != *it.Other {
+			t.Errorf("%s: %v, %v", text, back, err)
+		}
+	}
+	kept := answer{Kept: fault}
+	if err := json.Unmarshal([]byte(`{"Kept": null, "Other": null}`), &kept); err != nil || kept.Kept != fault || kept.Other != nil {
+		t.Error(kept, err)
+	}
+}
+
 func TestTheGreatestNumbersAreRead(t *testing.T) {
 	text := strings.NewReplacer("N", "18446744073709551615", "M", "170141183460469231731687303715884105727", "L", "-170141183460469231731687303715884105728").Replace(
 		`{"code":504,"feature":N,"first":{"edge":N,"ring":N},"layer":N,"polygon":N,"second":{"edge":N,"ring":N},"w":"M","x":"L","y":"M"}`)
@@ -87,6 +106,14 @@ func TestAValueThatIsNoFaultHasAText(t *testing.T) {
 		}
 		if _, err := mvtgate.Confirm(nil, &it, mvtgate.ProfilePolygon); !errors.Is(err, mvtgate.ErrNotAFault) {
 			t.Error(err)
+		}
+	}
+}
+
+func TestAdviceOfNoKindHasWords(t *testing.T) {
+	for _, it := range []mvtgate.Advice{{}, {Kind: "other", Layer: 1}} {
+		if it.String() != it.Kind+": No advice has this kind." || it.Title() == "" || it.Place() != "" || strings.Count(it.Explain(), "\n") != 4 {
+			t.Error(it.Explain())
 		}
 	}
 }

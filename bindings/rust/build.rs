@@ -1,6 +1,6 @@
 //! Says where libmvtgate is. The first of these that is there is taken:
 //!
-//! 1. the folder that the environment variable MVTGATE_LIB_DIR names, and no other place where it is set;
+//! 1. the folder that the environment variable MVTGATE_LIB_DIR names by its absolute path, and no other place where it is set;
 //! 2. `bindings/c/out` of this repository;
 //! 3. what `pkg-config --libs mvtgate` says.
 //!
@@ -17,6 +17,8 @@ fn main() {
     println!("cargo:rerun-if-env-changed=MVTGATE_LIB_DIR");
     println!("cargo:rerun-if-env-changed=PKG_CONFIG_PATH");
     if let Some(folder) = env::var_os("MVTGATE_LIB_DIR").map(PathBuf::from) {
+        // (this runs in the crate's folder, and the linker in another one)
+        assert!(folder.is_absolute(), "MVTGATE_LIB_DIR is {}, and has to be an absolute path", folder.display());
         assert!(
             link_from(&folder),
             "MVTGATE_LIB_DIR is {}, where there is no libmvtgate.a and no libmvtgate.so",
@@ -25,20 +27,30 @@ fn main() {
         return;
     }
     let crate_folder = PathBuf::from(env::var_os("CARGO_MANIFEST_DIR").expect("cargo sets this"));
-    let built = crate_folder.join("../c/out");
+    let of_c = crate_folder.join("../c");
+    let built = of_c.join("out");
+    // (so that a library that comes later is seen)
+    watch(if built.exists() { &built } else { &of_c });
     assert!(
         link_from(&built) || link_by_pkg_config(),
         "there is no libmvtgate: build it with tools/library of the repository, or set MVTGATE_LIB_DIR to its folder"
     );
 }
 
+/// Runs this again once the path has changed. One that isn't there would make each build a new one.
+fn watch(path: &Path) {
+    if path.exists() {
+        println!("cargo:rerun-if-changed={}", path.display());
+    }
+}
+
 /// Links the library of a folder; false where there is none.
 fn link_from(folder: &Path) -> bool {
     for (file, kind) in [("libmvtgate.a", "static"), ("libmvtgate.so", "dylib")] {
         let path = folder.join(file);
-        // (so that a library that is built anew, or comes later, is seen)
-        println!("cargo:rerun-if-changed={}", path.display());
         if path.exists() {
+            // (so that a library that is built anew is seen)
+            watch(&path);
             println!("cargo:rustc-link-search=native={}", folder.display());
             println!("cargo:rustc-link-lib={}=mvtgate", kind);
             return true;
@@ -53,7 +65,7 @@ fn link_by_pkg_config() -> bool {
         Ok(told) if told.status.success() => told.stdout,
         _ => return false,
     };
-    for word in String::from_utf8_lossy(&told).split_whitespace() {
+    for word in words_of(&String::from_utf8_lossy(&told)) {
         if let Some(folder) = word.strip_prefix("-L") {
             println!("cargo:rustc-link-search=native={}", folder);
         } else if let Some(library) = word.strip_prefix("-l") {
@@ -61,4 +73,20 @@ fn link_by_pkg_config() -> bool {
         }
     }
     true
+}
+
+/// The words of a line that pkg-config writes: in a word a backslash stands before each space and each other character that a
+/// shell would take for more than itself.
+fn words_of(line: &str) -> Vec<String> {
+    let mut words = vec![String::new()];
+    let mut letters = line.chars();
+    while let Some(letter) = letters.next() {
+        if letter.is_whitespace() {
+            words.push(String::new());
+            continue;
+        }
+        let taken = if letter == '\\' { letters.next() } else { Some(letter) };
+        words.last_mut().expect("there is a word").extend(taken);
+    }
+    words
 }

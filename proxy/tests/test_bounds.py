@@ -10,7 +10,7 @@ from typing import Iterator, List
 
 import pytest
 
-from conftest import VALID
+from conftest import FAULTY, VALID
 from running import SECONDS, Proxy, proxy, wait_until
 from upstream import Asked, reply, tile, upstream
 
@@ -112,6 +112,18 @@ def test_memory_has_a_bound() -> None:
                 assert it.recv(12).startswith(b"HTTP/1.1")
         wait_until(lambda: gate.metric("memory_bytes") == 0)
         assert gate.get("/1/2/8").status == 200
+
+
+def test_a_long_tile_is_not_mended_by_feature() -> None:
+    # (a field with an unknown number and a length, as in FILLER)
+    long = FAULTY + b"\xa2\x01\x80\x80\x40" + bytes(MEGABYTE)
+    with upstream(lambda _: tile(long)) as server:
+        with proxy(server.url, "--mode", "mend", "--profile", "feature") as gate:
+            answer = gate.get(TILE)
+            assert (answer.status, answer.json()["fault"]["code"]) == (500, 504), answer
+        with proxy(server.url, "--mode", "mend") as gate:
+            answer = gate.get(TILE)
+            assert (answer.status, answer.headers["X-Tile-Mended"]) == (200, "504"), answer
 
 
 def slow_tile() -> bytes:

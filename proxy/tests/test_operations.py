@@ -191,6 +191,7 @@ def said(*words: str, **environment: str) -> "subprocess.CompletedProcess[str]":
         ["--upstream", "http://a", "--last-good", "1T"],
         ["--upstream", "http://a", "--last-good", "-1"],
         ["--upstream", "http://a", "--max-tile", "1G"],
+        ["--upstream", "http://a", "--mode", "mend", "--memory", "3G"],
         ["--upstream", "http://a", "--judgements", "0"],
         ["--upstream", "http://a", "--upstream-time", "0s"],
         ["--upstream", "http://a", "--health-path", "x"],

@@ -1,6 +1,7 @@
 //! What no rule forbids in a tile and may still be a mistake.
 
 use crate::reader::Reader;
+use crate::OutOfMemory;
 
 /// One thing that a tile had better not have. It changes no verdict. All ordinals count from 0.
 #[derive(Clone, Copy, Debug, PartialEq, Eq, Hash)]
@@ -33,11 +34,16 @@ pub enum Advice {
 }
 
 /// The advice of the line `{"advice":[..]}`, or None where the text is another one.
-pub(crate) fn read(text: &str) -> Option<Vec<Advice>> {
+pub(crate) fn read(text: &str) -> Result<Option<Vec<Advice>>, OutOfMemory> {
+    let mut all = Vec::new();
+    all.try_reserve_exact(text.matches("\"kind\":").count()).map_err(|_| OutOfMemory)?;
+    Ok(read_all(text, &mut all).map(|()| all))
+}
+
+fn read_all(text: &str, all: &mut Vec<Advice>) -> Option<()> {
     let mut text = Reader::new(text);
     text.key("{", "advice")?;
     text.take("[")?;
-    let mut all = Vec::new();
     while !text.takes("]") {
         if !all.is_empty() {
             text.take(",")?;
@@ -45,8 +51,7 @@ pub(crate) fn read(text: &str) -> Option<Vec<Advice>> {
         all.push(read_one(&mut text)?);
     }
     text.take("}")?;
-    text.end()?;
-    Some(all)
+    text.end()
 }
 
 fn read_one(text: &mut Reader) -> Option<Advice> {
@@ -78,17 +83,17 @@ mod tests {
 
     #[test]
     fn reads_each_kind() {
-        assert_eq!(read(r#"{"advice":[]}"#), Some(vec![]));
-        assert_eq!(read(r#"{"advice":[{"kind":"no_layer"}]}"#), Some(vec![Advice::NoLayer]));
+        assert_eq!(read(r#"{"advice":[]}"#), Ok(Some(vec![])));
+        assert_eq!(read(r#"{"advice":[{"kind":"no_layer"}]}"#), Ok(Some(vec![Advice::NoLayer])));
         assert_eq!(
             read(
                 r#"{"advice":[{"kind":"no_feature","layer":3},{"first":0,"kind":"equal_key","layer":4,"second":2},{"first":5,"kind":"equal_id","layer":4,"second":7}]}"#
             ),
-            Some(vec![
+            Ok(Some(vec![
                 Advice::NoFeature { layer: 3 },
                 Advice::EqualKey { layer: 4, first: 0, second: 2 },
                 Advice::EqualId { layer: 4, first: 5, second: 7 },
-            ])
+            ]))
         );
     }
 
@@ -103,7 +108,7 @@ mod tests {
             r#"{"advice":[{"kind":"no_layer"},]}"#,
             r#"{"advice":[{"kind":"other"}]}"#,
         ] {
-            assert_eq!(read(text), None, "{}", text);
+            assert_eq!(read(text), Ok(None), "{}", text);
         }
     }
 }

@@ -15,8 +15,19 @@ import (
 	"mvtgate-proxy/internal/tiles"
 )
 
-// The worst tiles take so many times their length while they are judged, by either profile.
-const lengthsOfJudgement = 32
+// The worst tiles take so many times their length while they are judged, by either profile, and so many more while they are mended:
+// 200 bytes for each vertex, which has two bytes or more. Of a tile no more than some five million vertices are mended.
+const (
+	lengthsOfJudgement = 32
+	lengthsOfMending   = 100
+	mostOfMending      = 1 << 30
+)
+
+// LongestMendedByFeature is how many bytes a tile may have that is mended by the profile feature. Nothing interrupts that, and its
+// time may grow as the square of the length.
+const LongestMendedByFeature = 1 << 20
+
+var errTooLongToMend = errors.New("the tile is too long to be mended by the profile feature")
 
 // In bytes: about what a verdict takes beside its texts.
 const verdictBytes = 300
@@ -82,6 +93,17 @@ func (it *Gate) Remembered() (verdicts int, bytes int64) { return it.kept.Size()
 // Judging is how many tiles are being judged.
 func (it *Gate) Judging() int { return len(it.turns) }
 
+// JudgingMemory is how many bytes a tile of this length may take beside its own while it is judged.
+func JudgingMemory(length int64) int64 { return lengthsOfJudgement * length }
+
+// MendingMemory is the same while it is mended.
+func MendingMemory(length int64) int64 {
+	if length > mostOfMending/lengthsOfMending {
+		return JudgingMemory(length) + mostOfMending
+	}
+	return JudgingMemory(length) + lengthsOfMending*length
+}
+
 // Judge is the verdict on a tile by its packed bytes. The error is an *Unjudged, or that of the context. A judgement can't be
 // interrupted.
 func (it *Gate) Judge(ctx context.Context, packed []byte, encoding string) (*Verdict, error) {
@@ -96,9 +118,11 @@ func (it *Gate) Judge(ctx context.Context, packed []byte, encoding string) (*Ver
 		}
 	}
 	var verdict *Verdict
-	err := it.withTile(ctx, packed, encoding, func(tile []byte) (err error) {
-		verdict, err = it.judged(tile)
-		return err
+	err := it.withTile(ctx, packed, encoding, func(tile []byte) error {
+		return it.within(JudgingMemory(int64(len(tile))), func() (err error) {
+			verdict, err = it.judged(tile)
+			return err
+		})
 	})
 	if err != nil {
 		return nil, err
@@ -107,21 +131,31 @@ func (it *Gate) Judge(ctx context.Context, packed []byte, encoding string) (*Ver
 	return verdict, nil
 }
 
-// Mend is a valid tile in place of a faulty one, packed as that was. The error is its *mvtgate.Fault where it can't be mended.
+// Mend is a valid tile in place of a faulty one, packed as that was. The error is its *mvtgate.Fault where it can't be mended, and
+// another one where it isn't tried, as of a tile that is too long for the profile feature.
 func (it *Gate) Mend(ctx context.Context, packed []byte, encoding string) (mended []byte, err error) {
 	err = it.withTile(ctx, packed, encoding, func(tile []byte) error {
-		mend := mvtgate.Mend
-		if it.Drop {
-			mend = mvtgate.MendOrDrop
+		if it.Profile == mvtgate.ProfileFeature && len(tile) > LongestMendedByFeature {
+			return errTooLongToMend
 		}
-		made, err := mend(tile, it.Profile)
-		if err != nil {
-			return reasonOf(err)
-		}
-		mended, err = tiles.Packed(made.Tile, encoding)
-		return err
+		return it.within(MendingMemory(int64(len(tile))), func() (err error) {
+			mended, err = it.mended(tile, encoding)
+			return err
+		})
 	})
 	return mended, err
+}
+
+func (it *Gate) mended(tile []byte, encoding string) ([]byte, error) {
+	mend := mvtgate.Mend
+	if it.Drop {
+		mend = mvtgate.MendOrDrop
+	}
+	made, err := mend(tile, it.Profile)
+	if err != nil {
+		return nil, reasonOf(err)
+	}
+	return tiles.Packed(made.Tile, encoding)
 }
 
 func digestOf(packed []byte, encoding string) (key digest) {
@@ -133,7 +167,7 @@ func digestOf(packed []byte, encoding string) (key digest) {
 	return key
 }
 
-// withTile calls a function with the unpacked tile, when it is its turn and memory for the worst is left.
+// withTile calls a function with the unpacked tile, when it is its turn and memory for its bytes is left.
 func (it *Gate) withTile(ctx context.Context, packed []byte, encoding string, use func(tile []byte) error) error {
 	if err := it.enter(ctx); err != nil {
 		return err
@@ -143,7 +177,7 @@ func (it *Gate) withTile(ctx context.Context, packed []byte, encoding string, us
 		if int64(len(packed)) > it.MaxTile {
 			return TooLong
 		}
-		return it.within(packed, use)
+		return use(packed)
 	}
 	room := it.rooms.Get().(*[]byte)
 	defer it.rooms.Put(room)
@@ -159,17 +193,17 @@ func (it *Gate) withTile(ctx context.Context, packed []byte, encoding string, us
 		if it.NotEmpty && len(unpacked.Read) == 0 {
 			return Empty
 		}
-		return it.within(unpacked.Read, use)
+		return use(unpacked.Read)
 	}))
 }
 
-func (it *Gate) within(tile []byte, use func(tile []byte) error) error {
-	worst := lengthsOfJudgement * int64(len(tile))
-	if !it.budget.Take(worst) {
+// within calls a function that takes up to so many bytes, if they are left.
+func (it *Gate) within(bytes int64, use func() error) error {
+	if !it.budget.Take(bytes) {
 		return OutOfMemory
 	}
-	defer it.budget.Give(worst)
-	return use(tile)
+	defer it.budget.Give(bytes)
+	return use()
 }
 
 // enter waits for its turn.

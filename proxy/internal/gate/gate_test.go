@@ -3,6 +3,7 @@ package gate
 import (
 	"bytes"
 	"context"
+	"encoding/binary"
 	"errors"
 	"io"
 	"os"
@@ -10,6 +11,8 @@ import (
 	"testing"
 	"testing/iotest"
 	"time"
+
+	"mvtgate"
 
 	"mvtgate-proxy/internal/tiles"
 )
@@ -119,6 +122,61 @@ func TestAVerdictIsRememberedByBytesAndEncoding(t *testing.T) {
 	}
 	if verdicts, size := gate.Remembered(); judged != 4 || verdicts != 4 || size == 0 || budget.Taken() != 0 || gate.Judging() != 0 {
 		t.Error(judged, verdicts, size, budget.Taken())
+	}
+}
+
+// longer is the tile with a field of an unknown number behind it, so that it has so many bytes.
+func longer(t *testing.T, tile []byte, length int) []byte {
+	head := binary.AppendUvarint([]byte{0xa2, 0x01}, uint64(length-len(tile)-5))
+	long := append(append(append([]byte{}, tile...), head...), make([]byte, length-len(tile)-5)...)
+	if len(long) != length {
+		t.Fatal(len(long))
+	}
+	return long
+}
+
+func TestALongTileIsNotMendedByFeature(t *testing.T) {
+	faulty := sample(t, "crossing_edges")
+	for profile, isMended := range map[mvtgate.Profile]bool{mvtgate.ProfilePolygon: true, mvtgate.ProfileFeature: false} {
+		gate, budget := newGate(1, 0, func() {})
+		gate.Profile, gate.MaxTile = profile, 2<<20
+		for _, encoding := range []string{"", "gzip"} {
+			longest, _ := tiles.Packed(longer(t, faulty, LongestMendedByFeature), encoding)
+			tooLong, _ := tiles.Packed(longer(t, faulty, LongestMendedByFeature+1), encoding)
+			if _, err := gate.Mend(context.Background(), longest, encoding); err != nil {
+				t.Error(profile, encoding, err)
+			}
+			if mended, err := gate.Mend(context.Background(), tooLong, encoding); (err == nil) != isMended || (mended == nil) == isMended {
+				t.Error(profile, encoding, err)
+			}
+			if verdict, err := gate.Judge(context.Background(), tooLong, encoding); err != nil || verdict.Fault == nil || verdict.Fault.Code != 504 {
+				t.Error(profile, encoding, err)
+			}
+		}
+		if budget.Taken() != 0 || gate.Judging() != 0 {
+			t.Error(budget.Taken())
+		}
+	}
+}
+
+func TestMendingTakesMoreOfTheBudgetThanJudging(t *testing.T) {
+	const length = 100_000
+	faulty := longer(t, sample(t, "crossing_edges"), length)
+	for budget, isMended := range map[int64]bool{JudgingMemory(length): false, MendingMemory(length) - 1: false, MendingMemory(length): true} {
+		gate, _ := newGate(1, 0, func() {})
+		gate.budget = NewBudget(budget)
+		if verdict, err := gate.Judge(context.Background(), faulty, ""); err != nil || verdict.Fault == nil {
+			t.Error(budget, err)
+		}
+		if _, err := gate.Mend(context.Background(), faulty, ""); (err == nil) != isMended || !isMended && !errors.Is(err, OutOfMemory) {
+			t.Error(budget, err)
+		}
+		if gate.budget.Taken() != 0 {
+			t.Error(gate.budget.Taken())
+		}
+	}
+	if most := MendingMemory(64 << 20); most != 3<<30 {
+		t.Error(most)
 	}
 }
 
