@@ -79,6 +79,27 @@ def test_an_upgrade_gives_the_same_as_a_fresh_one(installation: Installation, co
     connection.close()
 
 
+def test_the_longest_tile_holds_against_clients(installation: Installation) -> None:
+    """Where the server has the library from its start, as README.md says."""
+    installation.make_database("bounded")
+    connection = installation.connect("bounded")
+    connection.cursor().execute("CREATE EXTENSION mvtgate; CREATE ROLE a_client LOGIN")
+    connection.cursor().execute("ALTER DATABASE bounded SET mvtgate.longest_tile = '2MB'")
+    connection.close()
+    installation.stop()
+    installation.start("shared_preload_libraries=mvtgate")
+    try:
+        with pytest.raises(psycopg2.OperationalError, match='permission denied to set parameter "mvtgate.longest_tile"'):
+            installation.connect("bounded", "a_client", "-c mvtgate.longest_tile=64MB")
+        connection = installation.connect("bounded", "a_client")
+        with pytest.raises(psycopg2.errors.ProgramLimitExceeded):
+            connection.cursor().execute("SELECT mvt_is_valid(%s)", (bytes(3 << 20),))
+        connection.close()
+    finally:
+        installation.stop()
+        installation.start()
+
+
 def test_a_database_of_another_encoding(installation: Installation) -> None:
     connection = installation.connect()
     connection.cursor().execute("CREATE DATABASE latin ENCODING 'LATIN1' LOCALE 'C' TEMPLATE template0")
