@@ -43,11 +43,11 @@ class Installation:
             shutil.copytree(pathlib.Path("/", it), self.folder / it, symlinks=True, ignore=ignored)
         (self.folder / _HEADERS).symlink_to(pathlib.Path("/", _HEADERS))
 
-    def make(self, *words: str, **how: Any) -> subprocess.CompletedProcess[str]:
+    def make(self, *words: str, makefile: pathlib.Path = EXTENSION / "Makefile", **how: Any) -> subprocess.CompletedProcess[str]:
         """Calls the extension's Makefile in a folder beside, with warnings as errors."""
         built = self.folder / "built"
         built.mkdir(exist_ok=True)
-        command = ["make", "-f", str(EXTENSION / "Makefile"), f"PG_CONFIG={self.programs}/pg_config", "COPT=-Werror", *words]
+        command = ["make", "-f", str(makefile), f"PG_CONFIG={self.programs}/pg_config", "COPT=-Werror", *words]
         return subprocess.run(command, cwd=built, capture_output=True, text=True, **how)
 
     def words(self, program: str, *words: str) -> List[str]:
