@@ -95,7 +95,8 @@ def write_list(path: pathlib.Path, found: Iterable[pathlib.Path]) -> None:
     """Writes for tools/current.sh what to compare a file with. The list is newer than the file that it is about."""
     # (where nothing can be written, the next call asks here again)
     with contextlib.suppress(OSError):
-        new = path.with_suffix(".new")
+        # (of this process alone, since others may write the list meanwhile)
+        new = path.with_name(f"{path.name}.{os.getpid()}")
         new.write_text("sources=" + shlex.quote("\n".join(str(it.relative_to(TOP)) for it in found)) + "\n", encoding="utf-8")
         new.replace(path)
 

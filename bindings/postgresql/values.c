@@ -7,7 +7,6 @@
 #include "mb/pg_wchar.h"
 #include "utils/builtins.h"
 #include "utils/guc.h"
-#include "utils/memutils.h"
 #include "utils/numeric.h"
 
 #include "explain.h"
@@ -77,8 +76,10 @@ int profile_argument(FunctionCallInfo fcinfo, int number)
 
 Datum jsonb_of(const char *text, size_t length)
 {
-    if (length >= MaxAllocSize)
-        ereport(ERROR, (errcode(ERRCODE_PROGRAM_LIMIT_EXCEEDED), errmsg("a text of %zu bytes is too long for jsonb", length)));
+    /* (jsonb takes up to 31 times its text while it is made, and nothing interrupts that) */
+    if (length > LONGEST_TILE)
+        ereport(ERROR, (errcode(ERRCODE_PROGRAM_LIMIT_EXCEEDED), errmsg("a text of %zu bytes is too long for jsonb", length),
+                        errdetail("A text of at most %d bytes is taken.", LONGEST_TILE)));
     char *its = pg_any_to_server(text, (int)length, PG_UTF8);
     Datum value = DirectFunctionCall1(jsonb_in, CStringGetDatum(its));
     if (its != text)

@@ -27,7 +27,7 @@ void free_tile(FunctionCallInfo fcinfo, int number, Tile tile);
 /* The profile of an argument. */
 int profile_argument(FunctionCallInfo fcinfo, int number);
 
-/* A text of JSON in UTF-8, with a zero byte behind it, as a value. */
+/* A text of JSON in UTF-8, with a zero byte behind it, as a value. It is no longer than the longest tile. */
 Datum jsonb_of(const char *text, size_t length);
 
 /* A fault in words. */

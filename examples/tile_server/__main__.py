@@ -76,7 +76,7 @@ def gate_of(said: argparse.Namespace) -> Optional[Gate]:
 
 
 def application_of(said: argparse.Namespace) -> web.Application:
-    """The application that the words describe. psycopg2.OperationalError where there is no such database."""
+    """The application that the words describe. psycopg2.Error where there is no such database, or they name none."""
     bound_all_waiting(said.query_seconds)
     database = Database(said.dsn, said.workers, said.query_seconds)
     health = Health(Database(said.dsn, 1, said.query_seconds))
@@ -106,7 +106,7 @@ def main(words: Optional[List[str]] = None) -> int:
             said.keep.mkdir(parents=True, exist_ok=True)
         listening = socket.create_server((said.host, said.port))
         served = application_of(said)
-    except (OSError, psycopg2.OperationalError) as error:
+    except (OSError, psycopg2.Error) as error:
         print(f"tile_server: {str(error).strip()}", file=sys.stderr)
         return 1
     host, port = listening.getsockname()[:2]

@@ -41,14 +41,26 @@ class Refused:
 Outcome = Union[Published, Refused]
 
 
+def _keep_file(path: pathlib.Path, content: bytes) -> None:
+    """Writes a file that everybody may read: aside, and then moved, so that nobody reads a half of it."""
+    number, name = tempfile.mkstemp(dir=path.parent)
+    try:
+        with open(number, "wb") as file:
+            file.write(content)
+        os.chmod(name, 0o644)
+        os.replace(name, path)
+    except OSError:
+        # (as where the disk is full)
+        with contextlib.suppress(OSError):
+            os.unlink(name)
+        raise
+
+
 def keep(folder: pathlib.Path, address: Address, tile: bytes, fault: Fault) -> None:
     """Leaves a faulty tile, and its fault's text, for whoever looks into it. The last ones of an address are kept."""
     name = str(address).replace("/", "-")
-    for suffix, content in ((".mvt", tile), (".json", fault.text.encode())):
-        # (written aside and moved, so that nobody reads a half of it)
-        with tempfile.NamedTemporaryFile(dir=folder, delete=False) as file:
-            file.write(content)
-        os.replace(file.name, folder / f"{name}{suffix}")
+    _keep_file(folder / f"{name}.mvt", tile)
+    _keep_file(folder / f"{name}.json", fault.text.encode())
 
 
 @dataclass(frozen=True)

@@ -57,6 +57,20 @@ test_consumers() {
     unset LD_LIBRARY_PATH
 }
 
+# make_extension DATABASE: builds the extension over what was installed, by a link, since make reads no name with a space.
+make_extension() {
+    local words=("MVTGATE_LIB_DIR=$room/installed/lib" "MVTGATE_INCLUDE_DIR=$room/installed/include")
+    ln -sfn "$prefix" "$room/installed"
+    ln -sfn "$PWD" "$room/here"
+    mkdir "$room/extension_$1"
+    case $1 in
+    sqlite) make -f "$room/here/bindings/sqlite/Makefile" OUT="$room/extension_sqlite" "${words[@]}" ;;
+    postgresql) make -C "$room/extension_postgresql" -f "$room/here/bindings/postgresql/Makefile" \
+        PG_CONFIG=/usr/lib/postgresql/15/bin/pg_config "${words[@]}" ;;
+    esac
+    [ -s "$room/extension_$1/mvtgate.so" ]
+}
+
 # Others' files and folders, empty ones too, that --uninstall leaves as they are.
 put_others() {
     mkdir -p "$1/lib" "$1/share/man/man1" "$1/share/empty"
@@ -71,6 +85,10 @@ test_place() {
     after=$(listing "$prefix")
     expect "the samples by the installed program" are_samples_right by_installed
     test_consumers
+    ! has /usr/include/sqlite3ext.h "the extension for SQLite over what was installed" || ! has /usr/include/zlib.h "the same" ||
+        expect "the extension for SQLite" make_extension sqlite
+    ! has /usr/include/postgresql/15/server/postgres.h "the extension for PostgreSQL over what was installed" ||
+        expect "the extension for PostgreSQL" make_extension postgresql
     if has /usr/share/bash-completion/bash_completion "the completion by bash-completion"; then
         export XDG_DATA_DIRS=$prefix/share
         expect "the completion where bash-completion looks for it" "$python" packaging/tests/typed.py /usr/share/bash-completion/bash_completion

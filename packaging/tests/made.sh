@@ -32,6 +32,25 @@ has_two_versions() {
     [ ! -e "$room/none" ]
 }
 
+# A checkout with a space in its name, of someone who lets nobody else read his files, has the same packages.
+are_same_from_elsewhere() {
+    local copy="$room/a checkout"
+    mkdir "$copy"
+    # (with the times of the folders, by which what is built is current)
+    tar --create --exclude=.git --exclude=out . | tar --extract --directory="$copy"
+    cp -a --parents crates/mvtgate/out/{mvtgate,sources} bindings/c/out web/out web/module/out "$copy"
+    chmod -R go= "$copy"
+    (umask 077 && SOURCE_DATE_EPOCH=${SOURCE_DATE_EPOCH:-$(git log -1 --format=%ct)} "$copy/tools/package" "$room/elsewhere")
+    are_same "$made" "$room/elsewhere"
+}
+
+# for_everybody PACKAGE: all in it can be read by everybody.
+for_everybody() {
+    local listed
+    listed=$(tar --list --verbose --file <(dpkg-deb --fsys-tarfile "$(ls "$made/$1"_*.deb)") | grep -vE '^(l|[-d]r..r-.r-)' || true)
+    [ -z "$listed" ] || { echo "$listed"; return 1; }
+}
+
 # The packages name what they need: the program and the library run by no newer C library than the one that is named.
 needs_named_libc() {
     local named needed
@@ -108,12 +127,14 @@ test_made() {
     fi
     expect "the files of tools/package" are_lines "$(printf '%s\n' "${names[@]}" | LC_ALL=C sort)" env LC_ALL=C ls "$made"
     expect "the same bytes twice" are_same "$made" "$room/again"
+    expect "the same bytes from a checkout with a space in its name and other modes" are_same_from_elsewhere
     expect "wrong words of tools/package" ends_with 2 tools/package a b
     expect "two versions" has_two_versions
     expect "the C library that is named" needs_named_libc
     expect "the C library that Python's extension names" module_needs_named_libc
     for package in "${packages[@]}"; do
         expect "the sums of $package" has_sums "$package"
+        expect "the modes of $package" for_everybody "$package"
     done
     if has /usr/bin/lintian "the errors of the packages"; then
         expect "lintian" lintian --allow-root --fail-on error "$made"/*.deb

@@ -118,6 +118,13 @@ mvtgate_proxy_faults_total{answer="reported",code="504",layer="a"} 1' ]]
     are_lines '{"status":"ok"}' within curl -s http://127.0.0.1:8081/healthz
 }
 
+# How many connections may wait to be taken is what the system allows, which the service can read.
+reads_length_of_queue() {
+    local process
+    process=$(within systemctl show --property=MainPID --value mvtgate-proxy)
+    are_lines "$(within cat /proc/sys/net/core/somaxconn)" within nsenter --target "$process" --mount cat /proc/sys/net/core/somaxconn
+}
+
 # what are_samples_right calls
 by_proxy() {
     local fault
@@ -183,6 +190,7 @@ test_service() {
     fi
     expect "apt install mvtgate-proxy" install_service
     expect "the service" start_service
+    expect "the connections that wait for the service" reads_length_of_queue
     expect "the samples by the service" are_samples_right by_proxy
     expect "nginx in front of the service" run_nginx
     expect "an upgrade of mvtgate-proxy" upgrade_service

@@ -43,11 +43,11 @@ class Installation:
             shutil.copytree(pathlib.Path("/", it), self.folder / it, symlinks=True, ignore=ignored)
         (self.folder / _HEADERS).symlink_to(pathlib.Path("/", _HEADERS))
 
-    def make(self, *words: str, **how: Any) -> subprocess.CompletedProcess[str]:
+    def make(self, *words: str, makefile: pathlib.Path = EXTENSION / "Makefile", **how: Any) -> subprocess.CompletedProcess[str]:
         """Calls the extension's Makefile in a folder beside, with warnings as errors."""
         built = self.folder / "built"
         built.mkdir(exist_ok=True)
-        command = ["make", "-f", str(EXTENSION / "Makefile"), f"PG_CONFIG={self.programs}/pg_config", "COPT=-Werror", *words]
+        command = ["make", "-f", str(makefile), f"PG_CONFIG={self.programs}/pg_config", "COPT=-Werror", *words]
         return subprocess.run(command, cwd=built, capture_output=True, text=True, **how)
 
     def words(self, program: str, *words: str) -> List[str]:
@@ -68,9 +68,9 @@ class Installation:
         words = ["-D", data, "-U", "tester", "-A", "trust", "-E", "UTF8", "--locale=C.UTF-8", "-N"]
         subprocess.run(self.words("initdb", *words), cwd=self.folder, check=True, stdout=subprocess.DEVNULL)
 
-    def start(self) -> None:
-        """Starts the server, and waits until it answers."""
-        settings = ["listen_addresses=", f"unix_socket_directories={self.folder}", "fsync=off", "max_connections=100"]
+    def start(self, *more: str) -> None:
+        """Starts the server, with more settings, and waits until it answers."""
+        settings = ["listen_addresses=", f"unix_socket_directories={self.folder}", "fsync=off", "max_connections=100", *more]
         words = ["setpriv", "--pdeathsig", "INT", *self.words("postgres", "-D", self.data)]
         log = self.folder / "log"
         with open(log, "ab") as file:
@@ -101,9 +101,9 @@ class Installation:
         self.stop()
         shutil.rmtree(self.folder, ignore_errors=True)
 
-    def connect(self, database: str = "postgres") -> Any:
+    def connect(self, database: str = "postgres", user: str = "tester", options: str = "") -> Any:
         """A connection on which each statement is a transaction by itself."""
-        connection = psycopg2.connect(host=str(self.folder), user="tester", dbname=database)
+        connection = psycopg2.connect(host=str(self.folder), user=user, dbname=database, options=options)
         connection.autocommit = True
         return connection
 

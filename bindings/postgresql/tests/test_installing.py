@@ -1,7 +1,9 @@
 """The extension as it is installed: by pg_regress, by users, as an upgrade, and beside its words."""
 from __future__ import annotations
 
+import pathlib
 import re
+import shutil
 import subprocess
 from typing import Any, Callable
 
@@ -77,6 +79,49 @@ def test_an_upgrade_gives_the_same_as_a_fresh_one(installation: Installation, co
     cursor.execute(FUNCTIONS)
     assert cursor.fetchall() == []
     connection.close()
+
+
+def test_each_released_version_has_a_way_to_this_one(cursor: Any) -> None:
+    cursor.execute("SELECT source FROM pg_extension_update_paths('mvtgate') WHERE target = %s AND path IS NOT NULL", (VERSION,))
+    found = {source for (source,) in cursor.fetchall()} | {VERSION}
+    released = re.findall(r"^## \[([\d.]+)\] - ", (TOP / "CHANGELOG.md").read_text(), re.MULTILINE)
+    assert [it for it in released if it not in found] == []
+
+
+def test_scripts_of_upgrades_are_installed(installation: Installation, tmp_path: pathlib.Path) -> None:
+    """By the Makefile of a copy, and git takes them."""
+    name = f"mvtgate--0.0.2--{VERSION}.sql"
+    for it in (EXTENSION, EXTENSION.parent / "sql"):
+        shutil.copytree(it, tmp_path / "bindings" / it.name)
+    copy = tmp_path / "bindings/postgresql"
+    (copy / "upgrades").mkdir(exist_ok=True)
+    (copy / "upgrades" / name).write_text("SELECT 1;\n")
+    made = installation.make("install", f"DESTDIR={tmp_path}/root", makefile=copy / "Makefile")
+    assert made.returncode == 0, made.stdout + made.stderr
+    assert [it.read_text() for it in (tmp_path / "root").rglob(name)] == ["SELECT 1;\n"]
+    ignored = subprocess.run(["git", "check-ignore", EXTENSION / "upgrades" / name], cwd=TOP, capture_output=True, text=True)
+    assert (ignored.returncode, ignored.stdout) == (1, "")
+
+
+def test_the_longest_tile_holds_against_clients(installation: Installation) -> None:
+    """Where the server has the library from its start, as README.md says."""
+    installation.make_database("bounded")
+    connection = installation.connect("bounded")
+    connection.cursor().execute("CREATE EXTENSION mvtgate; CREATE ROLE a_client LOGIN")
+    connection.cursor().execute("ALTER DATABASE bounded SET mvtgate.longest_tile = '2MB'")
+    connection.close()
+    installation.stop()
+    installation.start("shared_preload_libraries=mvtgate")
+    try:
+        with pytest.raises(psycopg2.OperationalError, match='permission denied to set parameter "mvtgate.longest_tile"'):
+            installation.connect("bounded", "a_client", "-c mvtgate.longest_tile=64MB")
+        connection = installation.connect("bounded", "a_client")
+        with pytest.raises(psycopg2.errors.ProgramLimitExceeded):
+            connection.cursor().execute("SELECT mvt_is_valid(%s)", (bytes(3 << 20),))
+        connection.close()
+    finally:
+        installation.stop()
+        installation.start()
 
 
 def test_a_database_of_another_encoding(installation: Installation) -> None:

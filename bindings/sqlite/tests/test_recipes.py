@@ -6,7 +6,7 @@ import pathlib
 import re
 import sqlite3
 import subprocess
-from typing import Any, Callable
+from typing import Any, Callable, List
 
 import pytest
 
@@ -18,6 +18,7 @@ VALID, CROSSING = ((TOP / "tiles" / name).read_bytes() for name in ("point.mvt",
 TILES = "CREATE TABLE tiles (zoom_level INTEGER, tile_column INTEGER, tile_row INTEGER, tile_data BLOB)"
 INDEX = "CREATE UNIQUE INDEX tile_index ON tiles (zoom_level, tile_column, tile_row)"
 INSERT = "INSERT INTO tiles VALUES (0, 0, ?, ?)"
+UPSERT = INSERT + " ON CONFLICT (zoom_level, tile_column, tile_row) DO UPDATE SET tile_data = excluded.tile_data"
 
 
 def recipe(heading: str) -> str:
@@ -37,34 +38,76 @@ def archive(connect: Callable[..., Any], tmp_path: pathlib.Path) -> Any:
     return database
 
 
-def test_refuse_what_is_not_valid(archive: Any) -> None:
-    archive.executescript(recipe("Refuse what isn't valid"))
+@pytest.fixture(params=["a table", "a table without rowid", "triggers that call themselves"])
+def each_archive(request: Any, archive: Any) -> Any:
+    """The same, also with another table and another setting of SQLite."""
+    if request.param == "a table without rowid":
+        archive.execute("DROP TABLE tiles")
+        archive.execute(TILES[:-1] + ", PRIMARY KEY (zoom_level, tile_column, tile_row)) WITHOUT ROWID")
+    if request.param == "triggers that call themselves":
+        archive.execute("PRAGMA recursive_triggers = ON")
+    return archive
+
+
+def tiles_of(archive: Any) -> List[Any]:
+    """The bytes of all tiles, by their rows."""
+    return [tile for (tile,) in archive.execute("SELECT tile_data FROM tiles ORDER BY tile_row")]
+
+
+def test_refuse_what_is_not_valid(each_archive: Any) -> None:
+    each_archive.executescript(recipe("Refuse what isn't valid"))
     for row, tile in enumerate((VALID, gzip.compress(VALID))):
-        archive.execute(INSERT, (row, tile))
-    for tile in (CROSSING, gzip.compress(CROSSING), gzip.compress(VALID)[:-1]):
+        each_archive.execute(INSERT, (row, tile))
+    for faulty in (CROSSING, gzip.compress(CROSSING), gzip.compress(VALID)[:-1], None):
+        for statement in (INSERT, UPSERT):
+            with pytest.raises(sqlite3.IntegrityError, match="the tile is not valid"):
+                each_archive.execute(statement, (7, faulty))
         with pytest.raises(sqlite3.IntegrityError, match="the tile is not valid"):
-            archive.execute(INSERT, (7, tile))
+            each_archive.execute(UPSERT, (0, faulty))
         with pytest.raises(sqlite3.IntegrityError, match="the tile is not valid"):
-            archive.execute("UPDATE tiles SET tile_data = ?", (tile,))
-    assert archive.execute("SELECT tile_row, tile_data FROM tiles ORDER BY 1").fetchall() == [(0, VALID), (1, gzip.compress(VALID))]
+            each_archive.execute("UPDATE tiles SET tile_data = ?", (faulty,))
+    assert tiles_of(each_archive) == [VALID, gzip.compress(VALID)]
 
 
-def test_mend_what_is_inserted(archive: Any) -> None:
-    archive.executescript(recipe("Mend what is inserted"))
-    archive.execute(INSERT, (0, VALID))
-    archive.execute(INSERT, (1, gzip.compress(CROSSING)))
-    archive.execute(INSERT, (2, CROSSING))
-    with pytest.raises(sqlite3.OperationalError, match="the tile can't be mended"):
-        archive.execute(INSERT, (3, VALID[:-1]))
-    tiles = [tile for (tile,) in archive.execute("SELECT tile_data FROM tiles ORDER BY tile_row")]
+def test_mend_what_comes(each_archive: Any) -> None:
+    each_archive.executescript(recipe("Mend what comes"))
+    each_archive.execute(INSERT, (0, VALID))
+    each_archive.execute(INSERT, (1, gzip.compress(CROSSING)))
+    each_archive.execute(INSERT, (2, CROSSING))
+    for row in (0, 3):
+        with pytest.raises(sqlite3.OperationalError, match="the tile can't be mended"):
+            each_archive.execute(UPSERT, (row, VALID[:-1]))
+        with pytest.raises(sqlite3.IntegrityError, match="the tile is NULL"):
+            each_archive.execute(UPSERT, (row, None))
     mended = mvtgate.mend(CROSSING).tile
+    tiles = tiles_of(each_archive)
     assert tiles[::2] == [VALID, mended] and gzip.decompress(tiles[1]) == mended and len(tiles) == 3
     assert mvtgate.check(mended) is None
+    each_archive.execute(UPSERT, (0, CROSSING))
+    each_archive.execute("UPDATE tiles SET tile_data = ? WHERE tile_row = 1", (CROSSING,))
+    assert tiles_of(each_archive) == [mended] * 3
 
 
-def test_all_faults_by_code(archive: Any) -> None:
-    archive.executemany(INSERT, enumerate(it.tile for it in SAMPLES))
-    told = archive.execute(recipe("All faults by code")).fetchall()
+def test_mend_what_has_no_address(archive: Any) -> None:
+    archive.executescript(recipe("Mend what comes"))
+    archive.execute(INSERT, (None, CROSSING))
+    assert tiles_of(archive) == [mvtgate.mend(CROSSING).tile]
+
+
+def test_mend_below_a_view(archive: Any) -> None:
+    archive.execute("DROP TABLE tiles")
+    archive.execute("CREATE TABLE images (tile_id TEXT PRIMARY KEY, tile_data BLOB)")
+    archive.execute("CREATE VIEW tiles AS SELECT 0 AS zoom_level, 0 AS tile_column, tile_id AS tile_row, tile_data FROM images")
+    address = "(zoom_level, tile_column, tile_row) IS (NEW.zoom_level, NEW.tile_column, NEW.tile_row)"
+    archive.executescript(recipe("Mend what comes").replace(address, "tile_id IS NEW.tile_id").replace(" tiles ", " images "))
+    archive.execute("INSERT INTO images VALUES ('0', ?)", (CROSSING,))
+    assert tiles_of(archive) == [mvtgate.mend(CROSSING).tile]
+    assert archive.execute(recipe("All faults by code")).fetchall() == []
+
+
+def test_all_faults_by_code(each_archive: Any) -> None:
+    each_archive.executemany(INSERT, enumerate(it.tile for it in SAMPLES))
+    told = each_archive.execute(recipe("All faults by code")).fetchall()
     faults = [[it.code for it in mvtgate.faults(sample.tile)] for sample in SAMPLES]
     codes = {it for its in faults for it in its}
     assert told == [(code, sum(its.count(code) for its in faults), sum(code in its for its in faults)) for code in sorted(codes)]

@@ -3,7 +3,10 @@ from __future__ import annotations
 
 import gzip
 import json
+import pathlib
 import sqlite3
+import subprocess
+import sys
 import zlib
 from typing import Any, Callable
 
@@ -149,14 +152,25 @@ def test_views_triggers_and_indexes_may_call_them(database: Any) -> None:
     assert "by_fault" in database.execute("EXPLAIN QUERY PLAN SELECT 1 FROM tiles WHERE mvt_fault(tile) = 'x'").fetchone()[3]
 
 
-def test_memory_that_is_refused(database: Any) -> None:
-    tile = shapes.zigzag(1 << 20)
-    assert one(database, "mvt_is_valid(?)", tile) in (0, 1)
-    before = one(database, "1") and database.execute("PRAGMA hard_heap_limit").fetchone()[0]
-    database.execute("PRAGMA hard_heap_limit = 4000000")
-    try:
-        with pytest.raises(MemoryError):
-            one(database, "mvt_dump(?)", tile)
-        assert one(database, "mvt_is_valid(?)", VALID) == 1
-    finally:
-        database.execute(f"PRAGMA hard_heap_limit = {before}")
+# A program of its own: the limit holds for all databases of a process, and can't be raised again.
+LIMITED = """
+import sqlite3, sys
+extension, valid = sys.argv[1:]
+database = sqlite3.connect(":memory:")
+database.enable_load_extension(True)
+database.load_extension(extension)
+tile = sys.stdin.buffer.read()
+print(database.execute("SELECT mvt_is_valid(?)", (tile,)).fetchone()[0] in (0, 1))
+database.execute("PRAGMA hard_heap_limit = 4000000")
+try:
+    database.execute("SELECT mvt_dump(?)", (tile,))
+except MemoryError:
+    print("refused")
+print(database.execute("SELECT mvt_is_valid(?)", (bytes.fromhex(valid),)).fetchone()[0])
+"""
+
+
+def test_memory_that_is_refused(extension: pathlib.Path) -> None:
+    words = [sys.executable, "-c", LIMITED, str(extension.with_suffix("")), VALID.hex()]
+    run = subprocess.run(words, input=shapes.zigzag(1 << 20), check=True, capture_output=True)
+    assert run.stdout == b"True\nrefused\n1\n"

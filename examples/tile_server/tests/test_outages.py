@@ -8,6 +8,7 @@ import sys
 import time
 from typing import List, Tuple
 
+import pytest
 from conftest import FIELD, GZIP, expect_later, judged, locked_areas, samples
 from running import SECONDS, Database, Server, map_database, path_of, tile_server
 
@@ -88,10 +89,12 @@ def test_database_that_is_silent() -> None:
         judged(running.get(path_of(FIELD)))
 
 
-def test_no_database_at_the_beginning() -> None:
-    command = [sys.executable, "-m", "tile_server", "--port", "0", "--dsn", "host=/nowhere dbname=map"]
+# (the second one is no description of a database)
+@pytest.mark.parametrize("dsn, said", [("host=/nowhere dbname=map", "/nowhere"), ("map", 'missing "=" after "map"')])
+def test_no_database_at_the_beginning(dsn: str, said: str) -> None:
+    command = [sys.executable, "-m", "tile_server", "--port", "0", "--dsn", dsn]
     run = subprocess.run(command, capture_output=True, text=True)
-    assert (run.returncode, run.stdout) == (1, "") and run.stderr.startswith("tile_server: ") and "/nowhere" in run.stderr
+    assert (run.returncode, run.stdout) == (1, "") and run.stderr.startswith("tile_server: ") and said in run.stderr
 
 
 def test_query_that_fails(database: Database) -> None:

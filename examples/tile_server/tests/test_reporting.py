@@ -4,6 +4,7 @@ from __future__ import annotations
 import gzip
 import json
 import pathlib
+import stat
 import tempfile
 from typing import Dict, Iterator
 
@@ -67,6 +68,19 @@ def test_faulty_tile_is_sent(reporting: Server, ungated: Server, folder: pathlib
     assert f" WARNING tile 6/{column}/20 sent all the same: areas {ROW[column]}: {fault.code}: " in line and line.endswith(f" {text}")
     assert (folder / f"6-{column}-20.mvt").read_bytes() == gzip.decompress(answer.body)
     assert (folder / f"6-{column}-20.json").read_text() == text
+
+
+def test_kept_files_are_for_everybody_and_whole(database: Database, tmp_path: pathlib.Path) -> None:
+    kept, other = f"6-{CLOSE_PONDS}-20", f"6-{COMMON_CORNER}-20"
+    with tile_server(database.dsn, "--report-only", "--keep", str(tmp_path)) as running:
+        assert running.get(path_of(CLOSE_PONDS)).status == 200
+        modes = {it.name: stat.S_IMODE(it.stat().st_mode) for it in tmp_path.iterdir()}
+        assert modes == {f"{kept}.json": 0o644, f"{kept}.mvt": 0o644}
+        # (no file can take the place of a folder)
+        (tmp_path / f"{other}.mvt").mkdir()
+        assert running.get(path_of(COMMON_CORNER)).status == 200
+        assert f" ERROR tile 6/{COMMON_CORNER}/20 not kept: " in running.log()
+        assert {it.name for it in tmp_path.iterdir()} == {*modes, f"{other}.mvt"}
 
 
 @pytest.mark.parametrize("column", [FIELD, PLACES, PONDS, TWO_CORNERS])

@@ -41,6 +41,8 @@ SELECT call, state_of(call) FROM unnest(ARRAY[
     'SELECT mvt_dump(''\x080108010801080108010801080108'')'
 ]) AS call;
 RESET mvtgate.longest_tile;
+-- one that isn't, with a text that is: of a million layers
+SELECT state_of('SELECT mvt_dump(decode(repeat(''1a0478020a00'', 1000000), ''hex''))');
 SHOW mvtgate.longest_tile;
 SET mvtgate.longest_tile = '65MB';
 SET mvtgate.shortest_tile = 1;
