@@ -3,10 +3,12 @@ from __future__ import annotations
 
 import gzip
 import math
+import os
 import pathlib
 import re
 import signal
 import sqlite3
+import stat
 import subprocess
 import sys
 import zlib
@@ -160,6 +162,42 @@ def test_folder(tmp_path: pathlib.Path, scheduler: str, drop: bool) -> None:
     assert (folder / names[TILES[0]]).read_bytes() == FAULT
 
 
+def folder_of(path: pathlib.Path, stored: bytes = FAULT) -> pathlib.Path:
+    """A folder with one tile."""
+    (path / "3/1").mkdir(parents=True)
+    (path / "3/1/1.mvt").write_bytes(stored)
+    return path
+
+
+@pytest.mark.parametrize("end", ["/", "//", "/."])
+def test_name_of_a_folder_that_ends_with_a_slash(tmp_path: pathlib.Path, scheduler: str, end: str) -> None:
+    """The copy is there under its name, and there is nothing else in it."""
+    folder, made = folder_of(tmp_path / "tiles"), tmp_path / "made"
+    it = run(tmp_path / "out", folder, "--mend", f"{made}{end}", "--scheduler", scheduler)
+    assert it.process.returncode == VALID_STATUS, it.stderr
+    assert [str(it.relative_to(made)) for it in sorted(made.rglob("*"))] == ["3", "3/1", "3/1/1.mvt"]
+    assert (made / "3/1/1.mvt").read_bytes() == mended(FAULT)
+
+
+def test_folder_that_is_closed_to_writing(tmp_path: pathlib.Path, scheduler: str) -> None:
+    """The copy's files can be written to, and else have the modes and times that they had. What an earlier call left is taken away."""
+    folder, made = folder_of(tmp_path / "tiles"), tmp_path / "made"
+    folder_of(tmp_path / "made.part", b"left")
+    before = folder / "3/1/1.mvt"
+    os.utime(before, (1e9, 1e9))
+    before.chmod(0o440)
+    for closed in (folder / "3/1", tmp_path / "made.part/3/1"):
+        closed.chmod(0o555)
+    try:
+        it = run(tmp_path / "out", folder, "--mend", made, "--scheduler", scheduler)
+        assert it.process.returncode == VALID_STATUS, it.stderr
+        after = made / "3/1/1.mvt"
+        assert after.read_bytes() == mended(FAULT) and stat.S_IMODE(after.stat().st_mode) == 0o640 and before.stat().st_mtime == 1e9
+    finally:
+        for path in tmp_path.rglob("3/1"):
+            path.chmod(0o755)
+
+
 def lon(zoom: int, column: float) -> float:
     return column / (1 << zoom) * 360 - 180
 
@@ -290,6 +328,17 @@ def test_nothing_is_written_over(tmp_path: pathlib.Path) -> None:
     (folder / "1.mvt").write_bytes(FAULT)
     refuse(run(tmp_path / "out", tmp_path / "folder", "--mend", folder / "made"), "lies in the folder that is judged")
     assert tiles_of(other) == tiles_of(path)
+
+
+def test_source_under_the_name_of_the_part(tmp_path: pathlib.Path) -> None:
+    """Such as a file that was fetched under this name: it stays, and so does what is in a folder of this name."""
+    path = write_database(tmp_path / "tiles.mbtiles.part", TILES)
+    refuse(run(tmp_path / "out", path, "--mend", tmp_path / "tiles.mbtiles"), f"{path} is written over")
+    folder = folder_of(tmp_path / "folder.part")
+    refuse(run(tmp_path / "out", folder, "--mend", tmp_path / "folder"), f"{folder} is written over")
+    inner = write_database(folder / "tiles.mbtiles", TILES)
+    refuse(run(tmp_path / "out", inner, "--mend", tmp_path / "folder"), f"{folder} is written over")
+    assert tiles_of(path) == tiles_of(inner) and (folder / "3/1/1.mvt").read_bytes() == FAULT
 
 
 def test_databases_that_are_not_mended(tmp_path: pathlib.Path) -> None:
