@@ -183,11 +183,13 @@ def test_long_directories(tmp_path: pathlib.Path, is_root: bool) -> None:
         (lambda: archive(b"", b"", b"", version=2), "version 2"),
         (lambda: archive(b"", b"", b"", kind=2), "PNG"),
         (lambda: archive(b"", b"", b"", packing=4), "Zstandard"),
+        # (byte 98 of the header says how tiles are packed: of brotli's own bytes nothing tells what they are)
+        (lambda: archive(b"", b"", b"")[:98] + b"\x03" + archive(b"", b"", b"")[99:], "its tiles are packed by brotli"),
         (lambda: b"PMTiles\x03", "no PMTiles archive"),
         (lambda: archive(gzip.compress(directory([])), b"", VALID)[:-1], "beyond its end"),
         (lambda: archive(b"", b"", b"")[:40] + struct.pack("<QQ", 1 << 63, 1 << 63) + archive(b"", b"", b"")[56:], "beyond its end"),
     ],
-    ids=["version", "pictures", "packing", "short", "cut", "beyond"],
+    ids=["version", "pictures", "packing", "brotli", "short", "cut", "beyond"],
 )
 def test_what_is_no_archive(tmp_path: pathlib.Path, data: Hostile, why: str) -> None:
     (tmp_path / "a.pmtiles").write_bytes(data())
