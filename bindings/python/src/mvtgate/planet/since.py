@@ -104,7 +104,7 @@ class EarlierRun:
                 elif "judged" in members:
                     partition = Partition.of(members["judged"]["partition"])
                     self._done.setdefault((partition.source, partition.zoom), []).append((partition, at))
-                    self._stored = int(members["stored"])
+                    self._stored = int(members.get("stored", 0))
                 at += len(line)
         except (ValueError, LookupError, TypeError, RecursionError):
             raise NoEarlierRun(f"{self._path}: at byte {at} is no line of a journal") from None
