@@ -12,12 +12,16 @@ import stat
 import subprocess
 import sys
 import zlib
-from typing import Any, Dict, List, Optional, Tuple
+from typing import Any, Dict, Iterator, List, Optional, Tuple
 
 import pytest
 
 import mvtgate
 from mvtgate import Profile
+from mvtgate.planet.endings import Unfinished
+from mvtgate.planet.mending.copy import Replaced
+from mvtgate.planet.mending.mbtiles import CopyOfMbtiles
+from mvtgate.planet.records import Place
 from mvtgate.planet.unpack import packing_of, unpacked
 from planet.conftest import Gate
 from planet.helpers.forms import VIEW
@@ -364,6 +368,44 @@ def test_full_disk(planet: Planet, tmp_path: pathlib.Path, small_disk: pathlib.P
     subprocess.run(["mount", "-o", "remount,size=8m", str(small_disk)], check=True)
     assert run(tmp_path / "out", *words).process.returncode == FAULTY
     whole(planet, small_disk)
+
+
+def test_log_that_stays(tmp_path: pathlib.Path) -> None:
+    """What a database's log has, and couldn't be put into the copy, would be missing there: so there is none."""
+    path, made = write_database(tmp_path / "tiles.mbtiles", TILES), tmp_path / "made.mbtiles"
+    assert rows(path, "PRAGMA journal_mode=WAL") == [("wal",)]
+    copy, holders = CopyOfMbtiles(str(path), str(made)), []
+
+    def tiles() -> Iterator[Replaced]:
+        # (as long as another connection reads the file, nothing of a log is put into it)
+        holders.append(sqlite3.connect(f"{made}.part", isolation_level=None))
+        holders[0].execute("BEGIN")
+        holders[0].execute("SELECT count(*) FROM tiles").fetchone()
+        yield Replaced(Place(0, 3, 1, 1), FAULT, VALID)
+
+    with pytest.raises(Unfinished, match="another program reads the copy"):
+        copy.write(tiles())
+    assert not made.exists()
+    holders[0].close()
+    copy.write(iter([Replaced(Place(0, 3, 1, 1), FAULT, VALID)]))
+    assert tiles_of(made)[3, 1, 1] == VALID and not list(tmp_path.glob("made.mbtiles.*"))
+
+
+def test_wal_and_a_full_disk(tmp_path: pathlib.Path, small_disk: pathlib.Path) -> None:
+    """There is room for the copy and for its log, and not for both in one file."""
+    subprocess.run(["mount", "-o", "remount,size=3m", str(small_disk)], check=True)
+    path = write_database(tmp_path / "tiles.mbtiles", [Tile(10, column, 0, bytes(3000)) for column in range(200)])
+    assert rows(path, "PRAGMA journal_mode=WAL") == [("wal",)]
+    made = small_disk / "made.mbtiles"
+    for length in range(3500, 6000, 250):
+        replaced = (Replaced(Place(0, 10, column, 0), bytes(3000), b"x" * length) for column in range(200))
+        try:
+            CopyOfMbtiles(str(path), str(made)).write(replaced)
+        except Unfinished:
+            assert not made.exists()
+            continue
+        assert rows(made, f"SELECT count(*) FROM tiles WHERE length(tile_data) = {length}") == [(200,)]
+        made.unlink()
 
 
 def test_report(tmp_path: pathlib.Path, scheduler: str) -> None:
