@@ -138,6 +138,7 @@ class Run:
         """Does the run, and writes what was found."""
         if self._copy is not None:
             self._copy.check()
+            self._copy.expect_apart(self.settings.output)
         if self.settings.is_anew:
             self._expect_no_copy()
         journal = self._journal()

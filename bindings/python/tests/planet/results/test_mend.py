@@ -343,6 +343,8 @@ def test_source_under_the_name_of_the_part(tmp_path: pathlib.Path) -> None:
     inner = write_database(folder / "tiles.mbtiles", TILES)
     refuse(run(tmp_path / "out", inner, "--mend", tmp_path / "folder"), f"{folder} is written over")
     assert tiles_of(path) == tiles_of(inner) and (folder / "3/1/1.mvt").read_bytes() == FAULT
+    # (nor is the folder with the results there)
+    refuse(run(tmp_path / "it.part", inner, "--mend", tmp_path / "it"), f"{tmp_path / 'it.part'} is written over")
 
 
 def test_databases_that_are_not_mended(tmp_path: pathlib.Path) -> None:

@@ -45,6 +45,11 @@ class Copy(abc.ABC):
     def fill(self, tiles: Iterator[Replaced]) -> None:
         """Makes the whole copy beside its name, and has it be on the disk."""
 
+    def expect_apart(self, path: str) -> None:
+        """NoCopy where a path is among what is removed before the copy is made."""
+        if _is_within(path, self.part):
+            raise NoCopy(f"{self.part} is written over while the copy is made, and {path} is there; name another file for the mended tiles")
+
     def remove_part(self) -> None:
         """Removes what is beside the name."""
         if os.path.isdir(self.part) and not os.path.islink(self.part):
@@ -97,9 +102,7 @@ def copy_of(sources: Sequence[Source], path: str) -> Copy:
         copy = CopyOfPmtiles(source.path, path)
     else:
         raise NoCopy(f"{source.path} can't be copied")
-    # (it is removed before the copy is made)
-    if _is_within(source.path, copy.part):
-        raise NoCopy(f"{copy.part} is written over while the copy is made, and has what is judged; name another file for the mended tiles")
+    copy.expect_apart(source.path)
     return copy
 
 
