@@ -149,10 +149,14 @@ def test_memory_of_many_faults(jobs: int, tmp_path: pathlib.Path) -> None:
     count = 30_000
     payload = b"\x78\x02" + NAMED + count * NO_POINT
     length = len(payload)
-    (tmp_path / "it.mvt").write_bytes(b"\x1a" + bytes([length & 127 | 128, length >> 7 & 127 | 128, length >> 14]) + payload)
-    words = ["--json", "--jobs", jobs, "--sarif", tmp_path / "it.sarif", tmp_path / "it.mvt"]
+    path = tmp_path / "0/0/0.mvt"
+    path.parent.mkdir(parents=True)
+    path.write_bytes(b"\x1a" + bytes([length & 127 | 128, length >> 7 & 127 | 128, length >> 14]) + payload)
+    words = ["--json", "--jobs", jobs, "--sarif", tmp_path / "it.sarif", "--geojson", tmp_path / "it.geojson", path]
     few = peak(*words)
     assert peak("--all", *words) < few + 12_000
     with open(tmp_path / "it.sarif") as report:
         # (a head, a result on each line, and a tail)
+        assert sum(1 for _ in report) == count + 2
+    with open(tmp_path / "it.geojson") as report:
         assert sum(1 for _ in report) == count + 2

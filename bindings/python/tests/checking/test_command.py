@@ -128,6 +128,25 @@ def test_module_without_the_command(words: List[str]) -> None:
     assert (said.returncode, said.stdout) == (2, "") and said.stderr.startswith("usage: mvtgate ")
 
 
+def test_without_standard_error(tmp_path: pathlib.Path) -> None:
+    """Where it is closed, standard output has nothing but its own lines, and the status is the same."""
+    for words, status in (([CROSSING], 1), ([CROSSING, tmp_path / "nowhere.mvt"], 3)):
+        said = subprocess.run(["sh", "-c", 'exec "$@" 2>&-', "sh", *command(*words)], env=environment(), stdout=subprocess.PIPE, text=True)
+        assert said.returncode == status and said.stdout == run(CROSSING).stdout
+
+
+# a program with a mistake in it, in whichever process judges
+MISTAKEN = "import sys; from mvtgate.checking import command, judging; judging._judged = lambda *_: 1 / 0; sys.exit(command.main(sys.argv[1:]))"
+
+
+@pytest.mark.parametrize("jobs", ["1", "2"])
+def test_mistake_in_the_program(jobs: str) -> None:
+    """Its status isn't that of a fault."""
+    said = subprocess.run([sys.executable, "-c", MISTAKEN, "--jobs", jobs, POINT], env=environment(), capture_output=True, text=True)
+    assert said.returncode == 3 and said.stderr.startswith("mvtgate-check: this is a mistake in the program: please report it\n")
+    assert "ZeroDivisionError" in said.stderr
+
+
 def test_help_and_version() -> None:
     assert run("--version").stdout == f"mvtgate-check {VERSION}\n"
     said = subprocess.run([sys.executable, "-m", "mvtgate", "--version"], env=environment(), capture_output=True, text=True)

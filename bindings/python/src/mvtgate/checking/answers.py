@@ -1,7 +1,9 @@
 """What came of a tile."""
 from __future__ import annotations
 
+import io
 import itertools
+import json
 from dataclasses import dataclass
 from typing import Iterable, Iterator, List, NamedTuple, Optional, Sequence
 
@@ -13,6 +15,9 @@ from .mending import Mending
 from .names import on_one_line
 
 
+_json_of = json.JSONEncoder(separators=(",", ":")).encode
+
+
 class About(NamedTuple):
     """Where a fault's tile is, and what of it the fault is about: a layer, a feature and a point, where it has them."""
 
@@ -20,6 +25,25 @@ class About(NamedTuple):
     layer: Optional[str]
     feature_id: Optional[int]
     point: Optional[List[float]]
+
+
+@dataclass(frozen=True)
+class Abouts:
+    """The same of all faults of a tile, as short as their texts: a line of JSON for each, since there may be very many."""
+
+    address: Address
+    lines: str
+
+    @classmethod
+    def of(cls, address: Address, abouts: Iterable[About]) -> Abouts:
+        """Those that are given, one at a time."""
+        lines = io.StringIO()
+        for it in abouts:
+            lines.write(f"{_json_of([it.layer, it.feature_id, it.point])}\n")
+        return cls(address, lines.getvalue())
+
+    def each(self) -> Iterator[About]:
+        return (About(self.address, *json.loads(it)) for it in lines_of(self.lines))
 
 
 @dataclass(frozen=True)
@@ -74,14 +98,14 @@ class Verdict:
     confirmed: Optional[Sequence[bool]] = None
     error: Optional[str] = None
     mending: Optional[Mending] = None
-    abouts: Optional[Sequence[About]] = None
+    abouts: Optional[Abouts] = None
 
     def answers(self) -> Iterator[Answer]:
         """An answer for each fault, or one where there is none."""
         if not self.lines:
             yield Answer(self.file, self.place, error=self.error)
         each: Iterable[Optional[bool]] = itertools.repeat(None) if self.confirmed is None else self.confirmed
-        abouts: Iterable[Optional[About]] = itertools.repeat(None) if self.abouts is None else self.abouts
+        abouts: Iterable[Optional[About]] = itertools.repeat(None) if self.abouts is None else self.abouts.each()
         for at, (text, confirmed, about) in enumerate(zip(lines_of(self.lines), each, abouts)):
             fault = fault_of_library(text)
             mending = None if at else self.mending

@@ -13,6 +13,7 @@ import io
 import os
 import signal
 import sys
+import traceback
 from typing import Generator, Iterator, List, Optional
 
 import mvtgate
@@ -22,7 +23,7 @@ from .counts import Counts
 from .judging import Settings, verdicts_of
 from .geojson import GeoJson
 from .junit import Junit
-from .lines import PROGRAM, Lines, tell
+from .lines import PROGRAM, Lines, have_errors, tell
 from .mending import Copies, NoFolder
 from .names import INPUT
 from .processes import WorkerGone, verdicts_by
@@ -140,6 +141,7 @@ def _run(said: argparse.Namespace) -> int:
 
 
 def _prepare() -> None:
+    have_errors()
     # (names of files that the terminal's encoding hasn't; and each line is there as soon as it is known)
     for stream in (sys.stdout, sys.stderr):
         if isinstance(stream, io.TextIOWrapper):
@@ -178,6 +180,9 @@ def main(words: Optional[List[str]] = None) -> int:
         return _fail(str(error))
     except OSError as error:
         return _fail(f"{error.filename}: {error.strerror}" if error.filename else str(error))
+    except Exception:
+        # (Python's own status for it is that of a fault)
+        return _fail(f"this is a mistake in the program: please report it\n{traceback.format_exc()}")
 
 
 if __name__ == "__main__":

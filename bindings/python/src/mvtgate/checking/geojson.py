@@ -2,7 +2,7 @@
 from __future__ import annotations
 
 import re
-from typing import List, Optional
+from typing import Iterable, Iterator, List, Optional
 
 from .._faults import Fault
 from .._files import ENDINGS
@@ -29,11 +29,12 @@ def address_of(file: str, place: Optional[str]) -> Optional[Address]:
     return Address(zoom, column, row) if is_one else None
 
 
-def abouts_of(tile: bytes, faults: List[Fault], address: Address) -> List[About]:
+def abouts_of(tile: bytes, faults: Iterable[Fault], address: Address) -> Iterator[About]:
     """What each fault of a tile is about, and where it is."""
     names = Names(tile)
-    subjects = [(fault, names.subject_of(fault)) for fault in faults]
-    return [About(address, it.layer, it.feature_id, point_of(fault.members, address, it)) for fault, it in subjects]
+    for fault in faults:
+        it = names.subject_of(fault)
+        yield About(address, it.layer, it.feature_id, point_of(fault.members, address, it))
 
 
 class GeoJson(Report):

@@ -11,7 +11,7 @@ from .._faults import fault_of_library
 from .._files import LIMIT
 from .._formats import Format, format_of
 from ..planet.unpack import NotUnpacked, unpacked
-from .answers import About, Verdict
+from .answers import Abouts, Verdict
 from .geojson import abouts_of, address_of
 from .mending import Copies
 from .pieces import Piece, Raw
@@ -48,11 +48,11 @@ def _confirmed(tile: bytes, lines: str, settings: Settings) -> Optional[List[boo
     return [mvtgate.confirm(tile, it, settings.profile) for it in _library.lines_of(lines)]
 
 
-def _abouts(raw: Raw, tile: bytes, lines: str, settings: Settings) -> Optional[List[About]]:
+def _abouts(raw: Raw, tile: bytes, lines: str, settings: Settings) -> Optional[Abouts]:
     address = address_of(raw.file, raw.place) if settings.has_places else None
     if address is None:
         return None
-    return abouts_of(tile, [fault_of_library(it) for it in _library.lines_of(lines)], address)
+    return Abouts.of(address, abouts_of(tile, map(fault_of_library, _library.lines_of(lines)), address))
 
 
 def _judged(raw: Raw, settings: Settings) -> Verdict:

@@ -2,6 +2,7 @@
 from __future__ import annotations
 
 import json
+import os
 import sys
 from typing import Any, Dict
 
@@ -47,6 +48,12 @@ def as_words(answer: Answer, is_explaining: bool) -> str:
         told = answer.format and answer.format.sentence
         line += "".join(f"\n    {it}" for it in reasons(answer.fault, answer.format) if it != told)
     return line
+
+
+def have_errors() -> None:
+    """Has a standard error be there, which goes nowhere where it was closed. (`print` would take standard output for it.)"""
+    if sys.stderr is None:
+        sys.stderr = open(os.devnull, "w")
 
 
 def tell(text: str) -> None:

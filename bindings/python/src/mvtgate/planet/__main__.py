@@ -22,6 +22,7 @@ from typing import Any, List, NoReturn, Optional, Tuple
 
 import mvtgate
 
+from ..checking.lines import have_errors
 from .cluster import default_workers
 from .endings import Ending, Refused, Status, ending_of
 from .outputs import REPORT, Counts
@@ -118,6 +119,8 @@ def paths_of(said: argparse.Namespace) -> List[str]:
                 paths += [line for line in file.read().split("\n") if line]
         except OSError as error:
             raise ending_of(error) from None
+        if any("\0" in it for it in paths):
+            raise Refused(f"{said.list}: it has zero bytes, which no name has; names stand one a line")
     if not paths:
         raise Refused("no FILE is named")
     return paths
@@ -215,6 +218,7 @@ def _joined(words: List[str]) -> List[str]:
 def main(words: Optional[List[str]] = None) -> int:
     """Runs the command and returns its exit status."""
     said = arguments().parse_args(_joined(sys.argv[1:] if words is None else words))
+    have_errors()
     signal.signal(signal.SIGTERM, interrupt)
     # (of a call of Dask's that an interrupt ends)
     warnings.filterwarnings("ignore", "coroutine .* was never awaited", RuntimeWarning)

@@ -4,11 +4,11 @@ from __future__ import annotations
 import csv
 import io
 import os
-import sqlite3
 from dataclasses import dataclass
 from typing import Iterable, Iterator, List, Optional
 
 from .records import Place
+from .temporary import Temporary
 from .whole_file import WholeFile
 
 ROWS = "rows.csv"
@@ -41,12 +41,7 @@ class Rows:
     """Counts by layers and ids. They are in a file of the system's, so that their number is no matter."""
 
     def __init__(self) -> None:
-        # (a database of no name is kept on the disk, as far as memory isn't wanted for it, and goes when it is closed)
-        self._database = sqlite3.connect("", isolation_level=None)
-        self._database.execute("PRAGMA synchronous = OFF")
-        self._database.execute("PRAGMA journal_mode = OFF")
-        self._database.execute(_TABLE)
-        self._database.execute("BEGIN")
+        self._database = Temporary(_TABLE)
         self.nameless = 0
 
     def add(self, place: Place, layer: Optional[str], feature_id: Optional[int], code: int) -> None:
@@ -83,5 +78,6 @@ class Rows:
 
 def _line(cells: Iterable[object]) -> str:
     text = io.StringIO()
-    csv.writer(text, lineterminator="\n").writerow(cells)
-    return text.getvalue()
+    # (it quotes cells with a character of the line's end, so it is told both)
+    csv.writer(text, lineterminator="\r\n").writerow(cells)
+    return text.getvalue().removesuffix("\r\n") + "\n"

@@ -21,7 +21,7 @@ from .mending.copy import NoCopy, copy_of, replaced
 from .outputs import PAGE, REPORT, Counts, remove_outputs, write_outputs
 from .page import built_page
 from .progress import Progress
-from .records import Extent, Partition, Place
+from .records import Extent, Finding, Partition, Place
 from .report import Report, require_parts
 from .report.limits import LISTED
 from .schedule import Schedule
@@ -138,6 +138,7 @@ class Run:
         """Does the run, and writes what was found."""
         if self._copy is not None:
             self._copy.check()
+            self._copy.expect_apart(self.settings.output)
         if self.settings.is_anew:
             self._expect_no_copy()
         journal = self._journal()
@@ -165,6 +166,9 @@ class Run:
             folder = os.path.dirname(os.path.abspath(path))
             if not (os.path.isdir(folder) and os.access(folder, os.W_OK | os.X_OK)):
                 raise Refused(f"{path}: there is no folder {folder} that can be written to")
+        junit = self.settings.junit
+        if junit is not None and (os.path.isdir(junit) or not os.path.basename(junit)):
+            raise Refused(f"{junit}: the report is a file, and this is the name of a folder")
 
     def _begin(self) -> None:
         """Before a run begins, and not where it goes on."""
@@ -201,15 +205,14 @@ class Run:
         finally:
             progress.close()
 
-    def _difference(self, earlier: EarlierRun, journal: Journal) -> Difference:
+    def _difference(self, earlier: EarlierRun, journal: Journal, unjudged: List[Tuple[Partition, str]]) -> Difference:
         """What is new since the earlier run, and what isn't there any more."""
         difference = Difference(earlier, self.settings.output)
-        faults = (
-            (Place(partition.source, partition.zoom, it.column, it.row), it)
-            for partition in journal.partitions()
-            for it in journal.judged(partition).faults
-        )
-        difference.write(faults, self._sources, LISTED, self._is_wanted)
+        found = ((partition, it) for partition in journal.partitions() for it in journal.judged(partition).findings)
+        # (all tiles of one that no worker could judge are at one place)
+        lost = ((it, Finding(*self._sources[it.source].northern(it), 0, error=reason)) for it, reason in unjudged)
+        findings = ((Place(partition.source, partition.zoom, it.column, it.row), it) for partition, it in itertools.chain(found, lost))
+        difference.write(findings, self._sources, LISTED, self._is_wanted)
         return difference
 
     def _is_wanted(self, place: Place) -> bool:
@@ -228,7 +231,7 @@ class Run:
             self._copy.write(replaced(journal, self._sources))
         report.changes, report.opened = changes, self._sources
         if self._earlier is not None:
-            report.difference = self._difference(self._earlier, journal)
+            report.difference = self._difference(self._earlier, journal, unjudged)
         write_summary(self.settings, self._members, counts, report, journal.seconds)
         page = built_page()
         if page is not None:

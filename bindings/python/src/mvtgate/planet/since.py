@@ -4,7 +4,6 @@ from __future__ import annotations
 import fcntl
 import json
 import os
-import sqlite3
 from collections import Counter
 from dataclasses import dataclass, field
 from typing import Any, Callable, Dict, Iterator, List, Mapping, Optional, Sequence, Tuple
@@ -15,6 +14,7 @@ from .records import Finding, Judged, Partition, Place
 from .sources import Source
 from .store import Store
 from .sums import Tile, sums_in
+from .temporary import Temporary
 from .whole_file import WholeFile
 
 SINCE = "since.jsonl"
@@ -74,6 +74,7 @@ class EarlierRun:
         self.folder = folder
         self._path = os.path.join(folder, "journal.jsonl")
         self._done: Dict[Tuple[int, int], List[Tuple[Partition, int]]] = {}
+        self._stored = 0
         try:
             self._file = open(self._path, "rb")
             fcntl.flock(self._file, fcntl.LOCK_SH | fcntl.LOCK_NB)
@@ -86,6 +87,8 @@ class EarlierRun:
         self.run = self._read()
         self._is_by_ids = _by_ids(self.run)
         self._store = Store(os.path.join(folder, "journal.bin"), is_read=True)
+        if self._store.end < self._stored:
+            raise NoEarlierRun(f"{self._store.path} has {self._store.end} bytes where the journal says {self._stored}")
 
     def _read(self) -> Dict[str, Any]:
         """The first line, and where the others are."""
@@ -101,6 +104,7 @@ class EarlierRun:
                 elif "judged" in members:
                     partition = Partition.of(members["judged"]["partition"])
                     self._done.setdefault((partition.source, partition.zoom), []).append((partition, at))
+                    self._stored = int(members.get("stored", 0))
                 at += len(line)
         except (ValueError, LookupError, TypeError, RecursionError):
             raise NoEarlierRun(f"{self._path}: at byte {at} is no line of a journal") from None
@@ -151,43 +155,51 @@ _TABLE = """
         PRIMARY KEY (source, zoom, column, row)) WITHOUT ROWID"""
 _AT = "source = ? AND zoom = ? AND column = ? AND row = ?"
 
+# a fault's code, layer and feature's id
+_About = Tuple[int, Optional[str], Optional[int]]
+
 
 class Difference:
-    """Which tiles have a fault since the earlier run, which have none any more or are gone, and which still have one."""
+    """Which tiles have a fault since the earlier run, which have none any more or are gone, and which still have one. Of a tile that had
+    one and couldn't be judged none of that is known: it is `unjudged`."""
 
     def __init__(self, earlier: EarlierRun, folder: str) -> None:
-        self.counts: Counter[str] = Counter({"new": 0, "still": 0, "mended": 0, "gone": 0})
+        self.counts: Counter[str] = Counter({"new": 0, "still": 0, "mended": 0, "gone": 0, "unjudged": 0})
         self.firsts: Dict[str, List[Dict[str, Any]]] = {it: [] for it in self.counts}
         self.folder = earlier.folder
         self._path = os.path.join(folder, SINCE)
-        # (on the disk, as far as memory isn't wanted for it)
-        self._database = sqlite3.connect("", isolation_level=None)
-        self._database.execute(_TABLE)
-        self._database.execute("BEGIN")
+        self._database = Temporary(_TABLE)
         for place, it in earlier.faults():
             identity = None if it.feature_id is None else str(it.feature_id)
             assert it.fault is not None
             row = (place.source, place.zoom, place.column, place.row, it.fault["code"], it.layer, identity)
             self._database.execute("INSERT OR IGNORE INTO earlier VALUES (?, ?, ?, ?, ?, ?, ?)", row)
 
-    def write(self, faults: Iterator[Tuple[Place, Finding]], sources: Sequence[Source], most: int, windowed: Callable[[Place], bool]) -> None:
+    def write(self, findings: Iterator[Tuple[Place, Finding]], sources: Sequence[Source], most: int, windowed: Callable[[Place], bool]) -> None:
         """Writes since.jsonl: the tiles with a fault in their order, and then those that have none any more."""
         with WholeFile(self._path) as file:
-            for place, it in faults:
-                assert it.fault is not None
-                was = self._database.execute(f"DELETE FROM earlier WHERE {_AT}", (place.source, place.zoom, place.column, place.row)).rowcount
-                self._add(file, "still" if was else "new", place, sources, (it.fault["code"], it.layer, it.feature_id), most)
+            for place, it in findings:
+                was = self._taken(place)
+                if it.fault is not None:
+                    self._add(file, "still" if was else "new", place, sources, (it.fault["code"], it.layer, it.feature_id), most)
+                elif was is not None:
+                    self._add(file, "unjudged", place, sources, was, most)
             left = self._database.execute("SELECT * FROM earlier ORDER BY source, zoom, column, row")
-            for source, zoom, column, row, code, layer, identity in left:
+            for source, zoom, column, row, *about in left:
                 place = Place(source, zoom, column, row)
                 if windowed(place):
                     what = "mended" if sources[source].tile(zoom, column, row) is not None else "gone"
-                    self._add(file, what, place, sources, (code, layer, None if identity is None else int(identity)), most)
+                    self._add(file, what, place, sources, _about(*about), most)
         self._database.close()
 
-    def _add(
-        self, file: WholeFile, what: str, place: Place, sources: Sequence[Source], about: Tuple[int, Optional[str], Optional[int]], most: int
-    ) -> None:
+    def _taken(self, place: Place) -> Optional[_About]:
+        """The fault that the earlier run found there, which is asked for once."""
+        words = (place.source, place.zoom, place.column, place.row)
+        found = self._database.execute(f"SELECT code, layer, id FROM earlier WHERE {_AT}", words).fetchone()
+        self._database.execute(f"DELETE FROM earlier WHERE {_AT}", words)
+        return None if found is None else _about(*found)
+
+    def _add(self, file: WholeFile, what: str, place: Place, sources: Sequence[Source], about: _About, most: int) -> None:
         code, layer, identity = about
         tile = Address(place.zoom, place.column, place.row).text
         line = {"what": what, "tile": tile, "zoom": place.zoom, "column": place.column, "row": place.row}
@@ -196,3 +208,8 @@ class Difference:
         self.counts[what] += 1
         if len(self.firsts[what]) < most:
             self.firsts[what].append(line)
+
+
+def _about(code: int, layer: Optional[str], identity: Optional[str]) -> _About:
+    """That of a row of the table."""
+    return code, layer, None if identity is None else int(identity)

@@ -6,7 +6,7 @@ from __future__ import annotations
 
 import os
 
-from .endings import Refused, Unfinished, writing
+from .endings import Refused, Unfinished, ending_of, writing
 
 
 class StoreLacks(Refused):
@@ -18,8 +18,10 @@ class Store:
 
     def __init__(self, path: str, is_read: bool = False) -> None:
         self.path = path
-        with writing(path):
+        try:
             self._file = open(path, "rb" if is_read else "a+b", buffering=0)
+        except OSError as error:
+            raise ending_of(error, path) from None
         self.end = os.fstat(self._file.fileno()).st_size
 
     def cut(self, end: int) -> None:

@@ -142,19 +142,23 @@ class _Handler(http.server.BaseHTTPRequestHandler):
             site.failing -= failing
         if failing or not told:
             self._send(503, b"busy")
+        elif site.elsewhere is not None:
+            self._send(302, b"", location=site.elsewhere)
         elif not site.has_ranges:
             self._send(200, site.data)
         else:
             first, last = int(told[1]), int(told[2])
             part = site.data[first : last + 1]
-            self._send(206, part, f"bytes {first}-{first + len(part) - 1}/{len(site.data)}", site.cut)
+            self._send(206, part, f"bytes {first}-{first + len(part) - 1}/{site.size or len(site.data)}", site.cut)
 
-    def _send(self, status: int, body: bytes, content_range: Optional[str] = None, cut: int = 0) -> None:
+    def _send(self, status: int, body: bytes, content_range: Optional[str] = None, cut: int = 0, location: Optional[str] = None) -> None:
         self.send_response(status)
         self.send_header("Content-Length", str(len(body)))
         self.send_header("ETag", self.server.tag)
         if content_range:
             self.send_header("Content-Range", content_range)
+        if location:
+            self.send_header("Location", location)
         self.end_headers()
         self.wfile.write(body[: max(0, len(body) - cut)])
         if cut:
@@ -162,7 +166,8 @@ class _Handler(http.server.BaseHTTPRequestHandler):
 
 
 class WebServer(http.server.ThreadingHTTPServer):
-    """One file, by ranges; or as a server answers that has none, is busy at first, or cuts its answers off."""
+    """One file, by ranges; or as a server answers that has none, is busy at first, cuts its answers off, sends elsewhere, or gives
+    another size."""
 
     daemon_threads = True
 
@@ -170,6 +175,8 @@ class WebServer(http.server.ThreadingHTTPServer):
         super().__init__(("127.0.0.1", 0), _Handler)
         self.data, self.tag, self.has_ranges, self.failing, self.cut, self.requests = data, '"1"', True, 0, 0, 0
         self.asked = ""
+        self.elsewhere: Optional[str] = None
+        self.size: Optional[str] = None
         self.lock = threading.Lock()
 
     @property

@@ -3,19 +3,25 @@ from __future__ import annotations
 
 import gzip
 import math
+import os
 import pathlib
 import re
 import signal
 import sqlite3
+import stat
 import subprocess
 import sys
 import zlib
-from typing import Any, Dict, List, Optional, Tuple
+from typing import Any, Dict, Iterator, List, Optional, Tuple
 
 import pytest
 
 import mvtgate
 from mvtgate import Profile
+from mvtgate.planet.endings import Unfinished
+from mvtgate.planet.mending.copy import Replaced
+from mvtgate.planet.mending.mbtiles import CopyOfMbtiles
+from mvtgate.planet.records import Place
 from mvtgate.planet.unpack import packing_of, unpacked
 from planet.conftest import Gate
 from planet.helpers.forms import VIEW
@@ -160,6 +166,42 @@ def test_folder(tmp_path: pathlib.Path, scheduler: str, drop: bool) -> None:
     assert (folder / names[TILES[0]]).read_bytes() == FAULT
 
 
+def folder_of(path: pathlib.Path, stored: bytes = FAULT) -> pathlib.Path:
+    """A folder with one tile."""
+    (path / "3/1").mkdir(parents=True)
+    (path / "3/1/1.mvt").write_bytes(stored)
+    return path
+
+
+@pytest.mark.parametrize("end", ["/", "//", "/."])
+def test_name_of_a_folder_that_ends_with_a_slash(tmp_path: pathlib.Path, scheduler: str, end: str) -> None:
+    """The copy is there under its name, and there is nothing else in it."""
+    folder, made = folder_of(tmp_path / "tiles"), tmp_path / "made"
+    it = run(tmp_path / "out", folder, "--mend", f"{made}{end}", "--scheduler", scheduler)
+    assert it.process.returncode == VALID_STATUS, it.stderr
+    assert [str(it.relative_to(made)) for it in sorted(made.rglob("*"))] == ["3", "3/1", "3/1/1.mvt"]
+    assert (made / "3/1/1.mvt").read_bytes() == mended(FAULT)
+
+
+def test_folder_that_is_closed_to_writing(tmp_path: pathlib.Path, scheduler: str) -> None:
+    """The copy's files can be written to, and else have the modes and times that they had. What an earlier call left is taken away."""
+    folder, made = folder_of(tmp_path / "tiles"), tmp_path / "made"
+    folder_of(tmp_path / "made.part", b"left")
+    before = folder / "3/1/1.mvt"
+    os.utime(before, (1e9, 1e9))
+    before.chmod(0o440)
+    for closed in (folder / "3/1", tmp_path / "made.part/3/1"):
+        closed.chmod(0o555)
+    try:
+        it = run(tmp_path / "out", folder, "--mend", made, "--scheduler", scheduler)
+        assert it.process.returncode == VALID_STATUS, it.stderr
+        after = made / "3/1/1.mvt"
+        assert after.read_bytes() == mended(FAULT) and stat.S_IMODE(after.stat().st_mode) == 0o640 and before.stat().st_mtime == 1e9
+    finally:
+        for path in tmp_path.rglob("3/1"):
+            path.chmod(0o755)
+
+
 def lon(zoom: int, column: float) -> float:
     return column / (1 << zoom) * 360 - 180
 
@@ -292,6 +334,19 @@ def test_nothing_is_written_over(tmp_path: pathlib.Path) -> None:
     assert tiles_of(other) == tiles_of(path)
 
 
+def test_source_under_the_name_of_the_part(tmp_path: pathlib.Path) -> None:
+    """Such as a file that was fetched under this name: it stays, and so does what is in a folder of this name."""
+    path = write_database(tmp_path / "tiles.mbtiles.part", TILES)
+    refuse(run(tmp_path / "out", path, "--mend", tmp_path / "tiles.mbtiles"), f"{path} is written over")
+    folder = folder_of(tmp_path / "folder.part")
+    refuse(run(tmp_path / "out", folder, "--mend", tmp_path / "folder"), f"{folder} is written over")
+    inner = write_database(folder / "tiles.mbtiles", TILES)
+    refuse(run(tmp_path / "out", inner, "--mend", tmp_path / "folder"), f"{folder} is written over")
+    assert tiles_of(path) == tiles_of(inner) and (folder / "3/1/1.mvt").read_bytes() == FAULT
+    # (nor is the folder with the results there)
+    refuse(run(tmp_path / "it.part", inner, "--mend", tmp_path / "it"), f"{tmp_path / 'it.part'} is written over")
+
+
 def test_databases_that_are_not_mended(tmp_path: pathlib.Path) -> None:
     """What can't be kept as it is, is told before anything is judged."""
     path = write_database(tmp_path / "tiles.mbtiles", TILES)
@@ -315,6 +370,44 @@ def test_full_disk(planet: Planet, tmp_path: pathlib.Path, small_disk: pathlib.P
     subprocess.run(["mount", "-o", "remount,size=8m", str(small_disk)], check=True)
     assert run(tmp_path / "out", *words).process.returncode == FAULTY
     whole(planet, small_disk)
+
+
+def test_log_that_stays(tmp_path: pathlib.Path) -> None:
+    """What a database's log has, and couldn't be put into the copy, would be missing there: so there is none."""
+    path, made = write_database(tmp_path / "tiles.mbtiles", TILES), tmp_path / "made.mbtiles"
+    assert rows(path, "PRAGMA journal_mode=WAL") == [("wal",)]
+    copy, holders = CopyOfMbtiles(str(path), str(made)), []
+
+    def tiles() -> Iterator[Replaced]:
+        # (as long as another connection reads the file, nothing of a log is put into it)
+        holders.append(sqlite3.connect(f"{made}.part", isolation_level=None))
+        holders[0].execute("BEGIN")
+        holders[0].execute("SELECT count(*) FROM tiles").fetchone()
+        yield Replaced(Place(0, 3, 1, 1), FAULT, VALID)
+
+    with pytest.raises(Unfinished, match="another program reads the copy"):
+        copy.write(tiles())
+    assert not made.exists()
+    holders[0].close()
+    copy.write(iter([Replaced(Place(0, 3, 1, 1), FAULT, VALID)]))
+    assert tiles_of(made)[3, 1, 1] == VALID and not list(tmp_path.glob("made.mbtiles.*"))
+
+
+def test_wal_and_a_full_disk(tmp_path: pathlib.Path, small_disk: pathlib.Path) -> None:
+    """There is room for the copy and for its log, and not for both in one file."""
+    subprocess.run(["mount", "-o", "remount,size=3m", str(small_disk)], check=True)
+    path = write_database(tmp_path / "tiles.mbtiles", [Tile(10, column, 0, bytes(3000)) for column in range(200)])
+    assert rows(path, "PRAGMA journal_mode=WAL") == [("wal",)]
+    made = small_disk / "made.mbtiles"
+    for length in range(3500, 6000, 250):
+        replaced = (Replaced(Place(0, 10, column, 0), bytes(3000), b"x" * length) for column in range(200))
+        try:
+            CopyOfMbtiles(str(path), str(made)).write(replaced)
+        except Unfinished:
+            assert not made.exists()
+            continue
+        assert rows(made, f"SELECT count(*) FROM tiles WHERE length(tile_data) = {length}") == [(200,)]
+        made.unlink()
 
 
 def test_report(tmp_path: pathlib.Path, scheduler: str) -> None:

@@ -13,7 +13,7 @@ import mvtgate
 from conftest import SAMPLES, YES, Sample
 from mvtgate import Fault, Profile
 from planet.helpers.planets import Planet, full_zoom, names_by_reader
-from planet.helpers.runs import PROGRAM, REFUSED, SAMPLE, VALID, VALID_STATUS, Run, Tile, expect_whole, journal, place, records, run, write_database
+from planet.helpers.runs import FAULTY, PROGRAM, REFUSED, SAMPLE, VALID, VALID_STATUS, Run, Tile, expect_whole, journal, place, records, run, write_database
 
 ZOOM = 7
 WORKERS_AND_PARTITION = [(2, 20), (1, 4000), (3, 1)]
@@ -168,6 +168,25 @@ def test_no_folder_for_what_is_written_at_the_end(tmp_path: pathlib.Path, word: 
     it = run(tmp_path / "out", path, word, made)
     assert (it.process.returncode, it.said) == (REFUSED, [f"mvtgate-planet: {made}: there is no folder {made.parent} that can be written to"])
     assert not (it.output / "journal.jsonl").exists()
+
+
+@pytest.mark.parametrize("end", ["", "/"])
+def test_folder_in_place_of_a_report(tmp_path: pathlib.Path, end: str) -> None:
+    """It is told before anything is judged, too."""
+    path = write_database(tmp_path / "a.mbtiles", [Tile(0, 0, 0, VALID)])
+    if not end:
+        (tmp_path / "made").mkdir()
+    it = run(tmp_path / "out", path, "--junit", f"{tmp_path}/made{end}")
+    assert (it.process.returncode, len(it.said)) == (REFUSED, 1) and f"{tmp_path}/made{end}: " in it.said[0]
+    assert not (it.output / "journal.jsonl").exists()
+
+
+def test_without_standard_error(planet: Planet, tmp_path: pathlib.Path) -> None:
+    """Where it is closed, what it says goes nowhere, and the run goes on."""
+    closed = ["sh", "-c", 'exec "$@" 2>&-', "sh", *PROGRAM]
+    it = Run(tmp_path / "out", planet.path, "--workers", "1", program=closed)
+    assert it.end() == FAULTY and it.stdout == ""
+    expect_whole(planet, it)
 
 
 def test_more_sources_than_files_that_may_be_open(tmp_path: pathlib.Path, scheduler: str) -> None:

@@ -9,7 +9,7 @@ import re
 import shutil
 import sqlite3
 import xml.etree.ElementTree as ElementTree
-from typing import Any, Callable, Dict, List, Set, Tuple
+from typing import Any, Callable, Dict, List, Optional, Set, Tuple
 
 import pytest
 
@@ -19,7 +19,7 @@ from mvtgate.planet.window import Ranges, Window, box_of, zooms_of
 from planet.helpers.forms import write_folder
 from planet.helpers.made import MADE
 from planet.helpers.planets import Planet, full_zoom
-from planet.helpers.runs import FAULTY, REFUSED, SAMPLE, VALID, VALID_STATUS, Run, Tile, faults_text, journal, records, run, write_database
+from planet.helpers.runs import FAULTY, REFUSED, SAMPLE, UNJUDGED, VALID, VALID_STATUS, Run, Tile, faults_text, journal, records, run, write_database
 
 Line = Dict[str, Any]
 FAULT, NO_KEY = SAMPLE["crossing_edges"].tile, SAMPLE["no_such_key"].tile
@@ -65,7 +65,7 @@ def test_nothing_changed(earlier: Tuple[Planet, Run], tmp_path: pathlib.Path, sc
     it = run(tmp_path / "out", path, "--since", before.output, "--scheduler", scheduler, "--partition", 16)
     assert it.process.returncode == FAULTY and reused(it) == 256, it.stderr
     assert faults_text(it.output) == planet.text.replace(str(planet.path), str(path))
-    assert summary(it)["since"] == {"run": str(before.output), "judged": 0, "new": 0, "still": len(planet.lines), "mended": 0, "gone": 0}
+    assert summary(it)["since"] == {"run": str(before.output), "judged": 0, "new": 0, "still": len(planet.lines), "mended": 0, "gone": 0, "unjudged": 0}
     # (and from this one a further one may begin)
     again = run(tmp_path / "again", path, "--since", it.output, "--scheduler", scheduler)
     assert reused(again) == 256 and faults_text(again.output) == faults_text(it.output)
@@ -97,7 +97,7 @@ def test_some_tiles_changed(earlier: Tuple[Planet, Run], tmp_path: pathlib.Path,
     html = (it.output / "report.html").read_text()
     [section] = re.findall(r'<section class="block" id="since".*?</section>', html, re.DOTALL)
     told = re.findall(r'<tr data-since="(\w+)">.*?<td class="number">([^<]*)<', section)
-    assert dict(told) == {"new": "2", "still": str(len(planet.lines) - 2), "mended": "1", "gone": "1"} and "4 tiles were judged" in section
+    assert dict(told) == {"new": "2", "still": str(len(planet.lines) - 2), "mended": "1", "gone": "1", "unjudged": "0"} and "4 tiles were judged" in section
 
 
 def test_folder_since_a_folder(tmp_path: pathlib.Path, scheduler: str) -> None:
@@ -129,6 +129,33 @@ def test_since_a_run_that_mended(tmp_path: pathlib.Path) -> None:
     assert it.process.returncode == FAULTY and reused(it) == 2, it.stderr
     [line] = records(it.output / "faults.jsonl")
     assert "mended" not in line and line["fault"]["code"] == 504
+
+
+def test_tiles_that_cannot_be_judged_any_more(tmp_path: pathlib.Path, scheduler: str, shimmed: Callable[[int], Dict[str, str]]) -> None:
+    """Of a tile that had a fault nobody knows whether it is mended: where it is cut, and where it ends its worker."""
+    path = tmp_path / "planet.mbtiles"
+    write_database(path, [Tile(2, column, 0, FAULT) for column in range(3)] + [Tile(2, 3, 0, VALID)])
+    first = run(tmp_path / "first", path, "--scheduler", scheduler)
+    statement = f"UPDATE tiles SET tile_data = ? {AT}"
+    cut, killer = gzip.compress(FAULT)[:-1], FAULT + b"\xff\xff!!kill"
+    changed(path, *((statement, (stored, 2, column, 3)) for column, stored in ((0, cut), (1, killer), (2, VALID), (3, cut))))
+    second = run(tmp_path / "second", path, "--since", first.output, "--scheduler", scheduler)
+    assert second.process.returncode == UNJUDGED, second.stderr
+    told = {(line["tile"], line["what"], line["code"]) for line in records(second.output / "since.jsonl")}
+    assert told == {("2/0/0", "unjudged", 504), ("2/1/0", "unjudged", 504), ("2/2/0", "mended", 504)}
+    assert {key: summary(second)["since"][key] for key in ("mended", "unjudged")} == {"mended": 1, "unjudged": 2}
+    assert 'data-since="unjudged"' in (second.output / "report.html").read_text()
+
+
+@pytest.mark.parametrize("left", [None, b"", b"cut"])
+def test_earlier_run_without_its_bytes(earlier: Tuple[Planet, Run], tmp_path: pathlib.Path, left: Optional[bytes]) -> None:
+    """Refused: the same words would never get on with it."""
+    planet, before = earlier
+    shutil.copytree(before.output, tmp_path / "before")
+    store = tmp_path / "before/journal.bin"
+    store.unlink() if left is None else store.write_bytes(left)
+    it = run(tmp_path / "out", planet.path, "--since", tmp_path / "before")
+    assert it.process.returncode == REFUSED and len(it.said) == 1 and str(store) in it.said[0], it.stderr
 
 
 @pytest.mark.parametrize("words", [["--profile", "feature"], ["--all"], ["--advice"], ["--layer", "water"]], ids=" ".join)

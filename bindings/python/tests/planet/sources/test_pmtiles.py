@@ -10,6 +10,7 @@ import re
 import struct
 import subprocess
 import sys
+import time
 from typing import Callable, Dict, List, Sequence, Tuple
 
 import pytest
@@ -182,11 +183,13 @@ def test_long_directories(tmp_path: pathlib.Path, is_root: bool) -> None:
         (lambda: archive(b"", b"", b"", version=2), "version 2"),
         (lambda: archive(b"", b"", b"", kind=2), "PNG"),
         (lambda: archive(b"", b"", b"", packing=4), "Zstandard"),
+        # (byte 98 of the header says how tiles are packed: of brotli's own bytes nothing tells what they are)
+        (lambda: archive(b"", b"", b"")[:98] + b"\x03" + archive(b"", b"", b"")[99:], "its tiles are packed by brotli"),
         (lambda: b"PMTiles\x03", "no PMTiles archive"),
         (lambda: archive(gzip.compress(directory([])), b"", VALID)[:-1], "beyond its end"),
         (lambda: archive(b"", b"", b"")[:40] + struct.pack("<QQ", 1 << 63, 1 << 63) + archive(b"", b"", b"")[56:], "beyond its end"),
     ],
-    ids=["version", "pictures", "packing", "short", "cut", "beyond"],
+    ids=["version", "pictures", "packing", "brotli", "short", "cut", "beyond"],
 )
 def test_what_is_no_archive(tmp_path: pathlib.Path, data: Hostile, why: str) -> None:
     (tmp_path / "a.pmtiles").write_bytes(data())
@@ -261,6 +264,21 @@ class TestWeb:
             address = server.address
         with pytest.raises(NotASource):
             open_source(address)
+
+    @pytest.mark.parametrize("address", ["http://a..b/x", f"http://{64 * 'a'}.example/x", "http://127.0.0.1:x/y", "http://a b/x", "http://[::1/x"])
+    def test_address_that_is_none(self, address: str) -> None:
+        """It is told at once, as one that nobody answers, and is no mistake in the program."""
+        began = time.monotonic()
+        with pytest.raises(NotASource, match=re.escape(address)):
+            open_source(address)
+        assert time.monotonic() - began < 5
+
+    def test_hostile_server(self, archive_of_samples: bytes) -> None:
+        """One that sends elsewhere, to an address that is none, and one that gives a size of more digits than Python reads."""
+        for server in serving(archive_of_samples):
+            for server.elsewhere, server.size in (("http://[::1", None), (None, "9" * 5000)):
+                with pytest.raises(NotASource, match=re.escape(server.address)):
+                    open_source(server.address)
 
     def test_changed_meanwhile(self, archive_of_samples: bytes) -> None:
         for server in serving(archive_of_samples):

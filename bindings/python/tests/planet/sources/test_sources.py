@@ -180,6 +180,11 @@ def test_changes_beside_the_file(tmp_path: pathlib.Path) -> None:
     database.execute("PRAGMA journal_mode=WAL")
     database.execute("UPDATE tiles SET tile_data = x'00'")
     refuse(run(tmp_path / "out", path), f"{path}: a program is writing to it, or left changes in {path}-wal")
+    # (and by a link, beside which there is nothing)
+    link = tmp_path / "elsewhere" / "link.mbtiles"
+    link.parent.mkdir()
+    link.symlink_to(path)
+    refuse(run(tmp_path / "out", link), f"{link}: a program is writing to it, or left changes in {path}-wal")
     database.execute("PRAGMA journal_mode=DELETE")
     database.execute("PRAGMA cache_size=1")
     database.execute("BEGIN")
@@ -221,6 +226,19 @@ def test_nothing_to_judge(tmp_path: pathlib.Path) -> None:
     refuse(run(out, missing), f"{missing}: there is no such file or folder")
     refuse(run(out, "--list", missing), f"{missing}: No such file or directory")
     refuse(run(out), "no FILE is named")
+
+
+def test_list_with_zero_bytes(tmp_path: pathlib.Path) -> None:
+    """As `find -print0` writes one."""
+    names = tmp_path / "names"
+    names.write_bytes(b"one\0other\0")
+    refuse(run(tmp_path / "out", "--list", names), f"{names}: it has zero bytes")
+
+
+def test_path_with_two_slashes(tmp_path: pathlib.Path, scheduler: str) -> None:
+    path = write_database(tmp_path / "tiles.mbtiles", [Tile(0, 0, 0, FAULT)])
+    it = run(tmp_path / "out", f"/{path}", "--mend", tmp_path / "made.mbtiles", "--scheduler", scheduler)
+    assert it.process.returncode == 0 and (tmp_path / "made.mbtiles").exists(), it.stderr
 
 
 def test_name_that_is_no_text(tmp_path: pathlib.Path, scheduler: str) -> None:

@@ -4,6 +4,7 @@ from __future__ import annotations
 import abc
 import os
 import shutil
+import stat
 from typing import Iterator, NamedTuple, Sequence
 
 from ..endings import Refused, Unfinished, reason_of
@@ -32,7 +33,9 @@ class Copy(abc.ABC):
     """A copy that is made beside its name, and then put there. What an earlier call left beside it is begun anew."""
 
     def __init__(self, source: str, path: str) -> None:
-        self.source, self.path, self.part = source, path, f"{path}.part"
+        # (behind a slash, as a folder's name may have one, `.part` would be a name within the copy)
+        self.source, self.path = source, os.path.normpath(path)
+        self.part = f"{self.path}.part"
 
     @abc.abstractmethod
     def check(self) -> None:
@@ -42,9 +45,17 @@ class Copy(abc.ABC):
     def fill(self, tiles: Iterator[Replaced]) -> None:
         """Makes the whole copy beside its name, and has it be on the disk."""
 
+    def expect_apart(self, path: str) -> None:
+        """NoCopy where a path is among what is removed before the copy is made."""
+        if _is_within(path, self.part):
+            raise NoCopy(f"{self.part} is written over while the copy is made, and {path} is there; name another file for the mended tiles")
+
     def remove_part(self) -> None:
         """Removes what is beside the name."""
         if os.path.isdir(self.part) and not os.path.islink(self.part):
+            # (folders may be as closed to writing as those of the source)
+            for folder, _, _ in os.walk(self.part):
+                os.chmod(folder, stat.S_IRWXU)
             shutil.rmtree(self.part)
         for left in (self.part, *(f"{self.part}{it}" for it in ("-wal", "-shm", "-journal"))):
             if os.path.lexists(left):
@@ -81,16 +92,24 @@ def copy_of(sources: Sequence[Source], path: str) -> Copy:
     if len(sources) != 1:
         raise NoCopy("--mend takes one FILE")
     [source] = sources
-    here, there = os.path.realpath(source.path), os.path.realpath(path)
     if isinstance(source, Folder):
-        if os.path.commonpath([here, there]) == here:
+        if _is_within(path, source.path):
             raise NoCopy(f"{path} lies in the folder that is judged")
-        return CopyOfFolder(source.path, path)
-    if isinstance(source, Mbtiles):
-        return CopyOfMbtiles(source.path, path)
-    if isinstance(source, Pmtiles):
-        return CopyOfPmtiles(source.path, path)
-    raise NoCopy(f"{source.path} can't be copied")
+        copy: Copy = CopyOfFolder(source.path, path)
+    elif isinstance(source, Mbtiles):
+        copy = CopyOfMbtiles(source.path, path)
+    elif isinstance(source, Pmtiles):
+        copy = CopyOfPmtiles(source.path, path)
+    else:
+        raise NoCopy(f"{source.path} can't be copied")
+    copy.expect_apart(source.path)
+    return copy
+
+
+def _is_within(path: str, folder: str) -> bool:
+    """Whether a path is that of a folder, or of something in it."""
+    there = os.path.realpath(folder)
+    return os.path.commonpath([os.path.realpath(path), there]) == there
 
 
 def replaced(journal: Journal, sources: Sequence[Source]) -> Iterator[Replaced]:

@@ -3,6 +3,7 @@ from __future__ import annotations
 
 import os
 import shutil
+import stat
 from typing import Iterator
 
 from ..._files import ENDINGS
@@ -17,7 +18,7 @@ class CopyOfFolder(Copy):
             raise NoCopy(f"{self.source}: there is no such folder")
 
     def fill(self, tiles: Iterator[Replaced]) -> None:
-        shutil.copytree(self.source, self.part, ignore_dangling_symlinks=True)
+        shutil.copytree(self.source, self.part, copy_function=_copied, ignore_dangling_symlinks=True)
         for it in tiles:
             self._replace(it)
         # (all at once: there may be millions)
@@ -30,6 +31,12 @@ class CopyOfFolder(Copy):
             if os.path.isfile(path) and _read(path) == it.before:
                 with open(path, "wb") as file:
                     file.write(it.after)
+
+
+def _copied(source: str, path: str) -> None:
+    """A file with its time. Its owner may write to it, since the mended tile is to be put into it."""
+    shutil.copy2(source, path)
+    os.chmod(path, stat.S_IMODE(os.stat(path).st_mode) | stat.S_IWUSR)
 
 
 def _read(path: str) -> bytes:

@@ -12,6 +12,7 @@ import sqlite3
 from dataclasses import dataclass
 from typing import Dict, Iterator, List, Optional, Set, Tuple
 
+from ..sources.mbtiles import uri_of
 from .copy import Copy, NoCopy, Replaced
 
 _PLACE = ("zoom_level", "tile_column", "tile_row")
@@ -68,11 +69,19 @@ def _update_of(database: sqlite3.Connection) -> str:
     return f"UPDATE {_quoted(it.data)} SET tile_data = ? WHERE {key} IN ({numbers}) AND {_SAME}"
 
 
+def _settle(database: sqlite3.Connection) -> None:
+    """Has what was written be in the file itself, and nothing in a log beside it, which wouldn't go with it. (A database that is closed
+    says nothing where it has no room for that.)"""
+    is_busy, _, _ = database.execute("PRAGMA wal_checkpoint(TRUNCATE)").fetchone()
+    if is_busy:
+        raise OSError("another program reads the copy while it is made")
+
+
 class CopyOfMbtiles(Copy):
     """Without a log of its own while it is written: what a call that was killed leaves is begun anew."""
 
     def check(self) -> None:
-        database = sqlite3.connect(f"file:{_uri(self.source)}?mode=ro&immutable=1", uri=True)
+        database = sqlite3.connect(uri_of(self.source), uri=True)
         with contextlib.closing(database):
             try:
                 _update_of(database)
@@ -105,9 +114,4 @@ class CopyOfMbtiles(Copy):
             if not database.execute(f"SELECT 1 FROM tiles WHERE {_AT} AND {_SAME}", (*place, it.after)).fetchone():
                 raise NoCopy(f"{self.source}: tile {it.place.zoom}/{it.place.column}/{it.place.row} wasn't changed")
         database.execute("COMMIT")
-
-
-def _uri(path: str) -> str:
-    import urllib.parse
-
-    return urllib.parse.quote(os.fsencode(os.path.abspath(path)))
+        _settle(database)

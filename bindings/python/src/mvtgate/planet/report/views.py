@@ -321,7 +321,13 @@ def difference_of(report: Report) -> Optional[View]:
         return None
     names = source_names(report)
     sources = {str(source["path"]): name for source, name in zip(report.run["sources"], names)}
-    kinds = (("new", "with a fault that had none"), ("still", "that still have one"), ("mended", "that have none any more"), ("gone", "that are gone"))
+    kinds = (
+        ("new", "with a fault that had none"),
+        ("still", "that still have one"),
+        ("mended", "that have none any more"),
+        ("gone", "that are gone"),
+        ("unjudged", "that had one, and couldn't be judged"),
+    )
     return {
         "folder": readable(it.folder),
         "judged": totals.tiles - totals.reused - totals.unjudged,

@@ -58,14 +58,15 @@ class Mbtiles(Source):
         log = self._log()
         if log is not None:
             raise NotASource(f"{path}: a program is writing to it, or left changes in {log}; close it first")
-        # (the name may have bytes that are no text)
-        self._uri = f"file:{urllib.parse.quote(os.fsencode(self.path))}?mode=ro&immutable=1"
+        self._uri = uri_of(self.path)
         self._modified = self.modified()
         self._of_thread = threading.local()
 
     def _log(self) -> Optional[str]:
         """A file with changes that aren't in this one yet, or with what to put back into it. It isn't read: the file is taken as it is."""
-        for log in (f"{self.path}-wal", f"{self.path}-journal"):
+        # (SQLite has it beside the file itself, wherever a link to that is)
+        real = os.path.realpath(self.path)
+        for log in (f"{real}-wal", f"{real}-journal"):
             with contextlib.suppress(FileNotFoundError), open(log, "rb") as file:
                 # (a journal that is done with may stay, with zeros at its front)
                 if file.read(1).strip(b"\0"):
@@ -149,6 +150,12 @@ class Mbtiles(Source):
 
     def at(self, zoom: int, column: int, row: int) -> Iterator[bytes]:
         return (data for (data,) in self._rows(_AT, (zoom, column, _turned(zoom, row))) if data is not None)
+
+
+def uri_of(path: str) -> str:
+    """By which SQLite reads a file without locks. The name may have bytes that are no text, and may begin with two slashes, behind
+    which the name of a host would stand."""
+    return f"file://{urllib.parse.quote(os.fsencode(os.path.abspath(path)))}?mode=ro&immutable=1"
 
 
 def _why_not_read(size: Optional[int], data: Optional[bytes]) -> Optional[str]:

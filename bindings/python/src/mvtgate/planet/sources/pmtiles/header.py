@@ -10,8 +10,8 @@ SIZE = 127
 MAGIC = b"PMTiles"
 VERSION = 3
 # numbers for how directories and tiles are packed
-NONE, GZIP = 1, 2
-PACKINGS = {0: "in an unknown way", NONE: "not at all", GZIP: "by gzip", 3: "by brotli", 4: "by Zstandard"}
+UNKNOWN, NONE, GZIP, ZSTD = 0, 1, 2, 4
+PACKINGS = {UNKNOWN: "in an unknown way", NONE: "not at all", GZIP: "by gzip", 3: "by brotli", ZSTD: "by Zstandard"}
 # numbers for what the tiles are
 VECTOR = 1
 KINDS = {0: "of an unknown kind", VECTOR: "vector tiles", 2: "PNG pictures", 3: "JPEG pictures", 4: "WebP pictures", 5: "AVIF pictures"}
@@ -57,6 +57,9 @@ class Header(NamedTuple):
         addressed, entries, contents, clustered, directories, tiles, kind, first, last, *rest = numbers[8:]
         if directories not in (NONE, GZIP):
             raise NotASource(f"its directories are packed {PACKINGS.get(directories, 'in an unknown way')}; gzip and none are read")
+        # (of those that are read, and where the writer didn't know it, each tile's first bytes say how it is packed)
+        if tiles not in (UNKNOWN, NONE, GZIP, ZSTD):
+            raise NotASource(f"its tiles are packed {PACKINGS.get(tiles, 'in an unknown way')}; gzip, Zstandard and none are read")
         if kind not in (0, VECTOR):
             raise NotASource(f"its tiles are no vector tiles, but {KINDS.get(kind, 'of an unknown kind')}")
         west, south, east, north, center_zoom, longitude, latitude = rest

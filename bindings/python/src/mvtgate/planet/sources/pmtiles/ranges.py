@@ -125,6 +125,10 @@ class WebRanges(Ranges):
                 error.close()
                 if error.code not in _FOR_NOW:
                     break
+            except (ValueError, http.client.InvalidURL) as error:
+                # (an address, also one that a server gives, that is none; a number of more digits than Python reads)
+                why = str(error)
+                break
             except (OSError, http.client.HTTPException, _Cut) as error:
                 why = str(getattr(error, "reason", error)) or type(error).__name__
         raise NotASource(f"{self._address}: {why}")
