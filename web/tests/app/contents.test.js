@@ -71,5 +71,5 @@ test('thousands of tags with one value of a megabyte take no memory to speak of'
   const { listed, count: all } = listedTags(layer, feature);
   assert.equal(all, count);
   assert.equal(listed.length, 200);
-  assert.ok(listed.every(({ key, value }) => key.length <= 10000 && value.length <= 10002));
+  assert.ok(listed.every(({ key, value }) => key.length <= 2000 && value.length <= 2002));
 });

@@ -21,7 +21,7 @@ const TAGS = 200;
  * these texts would take all memory that a browser has.
  */
 const LETTERS_IN_LINE = 100;
-const LETTERS_IN_RECORD = 10000;
+const LETTERS_IN_RECORD = 2000;
 
 /**
  * A feature in a line: its place, and what distinguishes it from others.
@@ -73,7 +73,7 @@ export function showRecord(parts, record, place) {
   const layer = record.layers[place.layer];
   const feature = layer.features[place.feature];
   fillTerms(parts.terms, [
-    ['Layer', `${isolated(layer.name)} (layer ${place.layer})`],
+    ['Layer', `${isolated(cut(layer.name, LETTERS_IN_LINE))} (layer ${place.layer})`],
     ['Feature', String(place.feature)],
     ['Id', feature.id === null ? 'none' : String(feature.id)],
     ['Type', typeName(feature.type)],
