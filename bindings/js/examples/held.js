@@ -42,9 +42,9 @@ export class Held {
 
   #writeHead(status, ...rest) {
     this.#answer.statusCode = status;
+    if (typeof rest[0] === 'string') [this.#answer.statusMessage] = rest;
     const headers = rest.find((it) => typeof it === 'object') ?? {};
-    const pairs = Array.isArray(headers) ? headers.flatMap((name, at) => (at % 2 ? [] : [[name, headers[at + 1]]])) : Object.entries(headers);
-    for (const [name, value] of pairs) this.#answer.setHeader(name, value);
+    for (const [name, value] of Array.isArray(headers) ? pairsOf(headers) : Object.entries(headers)) this.#answer.setHeader(name, value);
     return this.#answer;
   }
 
@@ -83,4 +83,14 @@ export class Held {
     this.#length += bytes.length;
     if (this.#length <= this.#limit) this.#parts.push(bytes);
   }
+}
+
+/** The headers of a list of names and values in turn, in which a name may stand more than once, as Set-Cookie does. */
+function pairsOf(list) {
+  const pairs = new Map();
+  for (let at = 0; at < list.length; at += 2) {
+    const key = list[at].toLowerCase(), [, ...values] = pairs.get(key) ?? [];
+    pairs.set(key, [list[at], ...values, list[at + 1]].flat());
+  }
+  return [...pairs.values()].map(([name, ...values]) => [name, values.length === 1 ? values[0] : values]);
 }

@@ -11,12 +11,12 @@ import { promisify } from 'node:util';
 import zlib from 'node:zlib';
 import { Held } from './held.js';
 
-const PACKINGS = {
+const PACKINGS = new Map(Object.entries({
   gzip: { unpack: promisify(zlib.gunzip), pack: promisify(zlib.gzip) },
   deflate: { unpack: promisify(zlib.inflate), pack: promisify(zlib.deflate) },
   br: { unpack: promisify(zlib.brotliDecompress), pack: promisify(zlib.brotliCompress) },
   identity: { unpack: async (bytes) => bytes, pack: async (bytes) => bytes },
-};
+}));
 
 const DEFAULTS = {
   profile: 'polygon',
@@ -37,10 +37,13 @@ export function tileGate(pool, options = {}) {
     delete asked.headers.range; // (a part of a tile can't be judged)
     const held = new Held(asked, answer, chosen.limit);
     held.body.then(async (body) => {
-      const found = await judged(pool, body, answer.getHeader('content-encoding') ?? 'identity', chosen);
-      if (found.outcome !== 'valid') chosen.report({ url: asked.url, outcome: found.outcome, fault: found.fault, changed: found.changed });
-      send(held, answer, found);
-    });
+      const found = await judged(pool, body, String(answer.getHeader('content-encoding') ?? 'identity').toLowerCase(), chosen);
+      try {
+        if (found.outcome !== 'valid') chosen.report({ url: asked.url, outcome: found.outcome, fault: found.fault, changed: found.changed });
+      } finally {
+        send(held, answer, found);
+      }
+    }).catch((error) => console.error(error)); // (of a report that failed; the server goes on)
     next();
   };
 }
@@ -49,7 +52,7 @@ const refusal = (status, outcome, fault = null) => ({ status, outcome, fault, bo
 
 /** What becomes of a body; null is one that is too large. */
 async function judged(pool, body, encoding, options) {
-  const packing = PACKINGS[encoding];
+  const packing = PACKINGS.get(encoding);
   if (!packing) return refusal(500, `packed by ${encoding}`);
   const tile = body && await packing.unpack(body, { maxOutputLength: options.limit }).catch(() => null);
   if (!tile) return refusal(500, "couldn't be unpacked");
@@ -76,7 +79,7 @@ function send(held, answer, { status, outcome, fault, body, changed }) {
   if (outcome === 'mended') answer.setHeader('X-Tile-Mended', String(changed.length));
   if (body === null) {
     for (const name of ['content-type', 'content-encoding']) answer.removeHeader(name);
-    answer.statusCode = status;
+    [answer.statusCode, answer.statusMessage] = [status, ''];
     answer.setHeader('Cache-Control', 'no-store');
     if (fault) answer.setHeader('X-Tile-Fault', String(fault.code));
     if (status === 503) answer.setHeader('Retry-After', '10');

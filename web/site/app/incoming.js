@@ -33,8 +33,10 @@ export function receiveFiles(receiver) {
   receiveDrops(receiver);
   document.addEventListener('paste', (event) => {
     if (event.target instanceof HTMLTextAreaElement || event.target instanceof HTMLInputElement || !event.clipboardData) return;
-    const text = event.clipboardData.getData('text/plain');
-    if (text) receiveText(receiver, text);
+    const text = event.clipboardData.getData('text/plain'), hasFiles = [...event.clipboardData.items].some(({ kind }) => kind === 'file');
+    if (text && receiveText(receiver, text)) return;
+    // (some systems put the names of copied files beside them as a text, and spreadsheets a picture beside a text)
+    if (text && !hasFiles) receiver.refuse(new Unreadable(NO_LINK), 'pasted text');
     else takeTransfer(receiver, event.clipboardData);
   });
 }
@@ -42,12 +44,13 @@ export function receiveFiles(receiver) {
 /**
  * @param {Receiver} receiver
  * @param {string} text that was pasted
+ * @returns {boolean} whether a tile, or what is meant as one, stands in it
  */
 function receiveText(receiver, text) {
-  if (receiveLink(receiver, text.slice(text.indexOf('#') + 1), 'pasted link')) return;
+  if (receiveLink(receiver, text.slice(text.indexOf('#') + 1), 'pasted link')) return true;
   const bytes = bytesOfText(text);
   if (bytes) receiver.take([{ name: 'pasted tile', file: new Blob([bytes]) }]);
-  else receiver.refuse(new Unreadable(NO_LINK), 'pasted text');
+  return bytes !== null;
 }
 
 /** @param {Receiver} receiver */
@@ -81,6 +84,11 @@ function takeTransfer(receiver, transfer) {
 export function receiveLinks(receiver) {
   const look = () => receiveLink(receiver, location.hash, 'tile of the link');
   addEventListener('hashchange', look);
+  document.addEventListener('click', (event) => {
+    const link = event.target instanceof Element ? event.target.closest('a') : null;
+    // (a link that leads to where the page is already changes no address)
+    if (link && link.hash === location.hash && !event.ctrlKey && !event.metaKey && !event.shiftKey) look();
+  });
   look();
 }
 

@@ -2,7 +2,7 @@
 
 import { embeddedModule } from '../gate/embedded.js';
 import { workersOfPage } from '../gate/workers.js';
-import { RemoteGate } from '../../../bindings/js/src/gate/remote.js';
+import { RemoteGate, Stopped } from '../../../bindings/js/src/gate/remote.js';
 import { explainFormat } from '../../../bindings/js/src/words/explain.js';
 import { isolated } from '../../../bindings/js/src/words/isolated.js';
 import { Answer } from './answer/answer.js';
@@ -30,7 +30,8 @@ class Page {
   #checks;
   #answer;
   #gateOfAll;
-  #isMendingAll = false;
+  /** @type {AbortController|null} ends the mending of all files that goes on */
+  #mendingAll = null;
   #status = new Status(() => this.#stop());
   #list = new FileList({ choose: (entry) => this.#chosenByUser(entry), enter: () => this.#answer.focus() });
   #archive = new ArchivePanel({
@@ -213,22 +214,25 @@ class Page {
 
   /** Mends all files with a fault, and has the browser save those that were mended. */
   async #mendAll() {
-    if (this.#isMendingAll) return;
-    this.#isMendingAll = true;
+    if (this.#mendingAll) return;
+    const { signal } = this.#mendingAll = new AbortController(), drop = byId('drop-all', HTMLInputElement).checked;
     const say = (/** @type {string} */ sentence) => this.#status.say('working', sentence);
     try {
-      const { archive, sentence } = await mendAll(this.#checks, this.#gateOfAll(), byId('drop-all', HTMLInputElement).checked, say);
+      const { archive, sentence } = await mendAll(this.#checks, this.#gateOfAll(), drop, say, signal);
       if (archive) saveFile('mended.zip', archive.type, archive);
       this.#tell(sentence);
     } catch (error) {
       this.#tell(`No archive was made: ${reasonOf(error)}.`);
     }
-    this.#isMendingAll = false;
+    this.#mendingAll = null;
   }
 
   #stop() {
     this.#awaited = null;
-    if (this.#isMendingAll) this.#gateOfAll().stop();
+    if (this.#mendingAll) {
+      this.#mendingAll.abort(new Stopped());
+      this.#gateOfAll().stop();
+    }
     this.#checks.stop();
     byId('verdict', HTMLElement).focus(); // (the button that had it is gone)
   }

@@ -139,6 +139,23 @@ test('a stop before the file was read keeps the check from beginning', async () 
   assert.equal(gate.waiting.length, 0);
 });
 
+test('a file that could not be read is read anew', async () => {
+  const { gate, checks, entries, states } = begin();
+  let isThere = false;
+  const file = /** @type {any} */ ({ size: 1, arrayBuffer: async () => {
+    if (!isThere) throw new Error('it is away');
+    return Uint8Array.of(FAULTY).buffer;
+  } });
+  entries.push(newEntry('a', file));
+  checks.add(entries);
+  while (checks.isBusy) await setImmediate();
+  assert.deepEqual([states(), entries[0].reason], [['unreadable'], 'the browser could not read the file']);
+  isThere = true;
+  checks.again(entries[0]);
+  await gate.answer();
+  assert.deepEqual([states(), entries[0].reason], [['fault'], '']);
+});
+
 test('another profile checks all files again', async () => {
   const { gate, checks, states } = begin([0], [FAULTY]);
   await gate.answer();

@@ -2,6 +2,7 @@
 import assert from 'node:assert/strict';
 import { test } from 'node:test';
 import { readRecord } from '../../../bindings/js/src/tile/record.js';
+import { featureLine, listedTags } from '../../site/app/contents/feature.js';
 import { tagsOf } from '../../site/app/contents/record.js';
 import { Finder } from '../../site/app/contents/search.js';
 
@@ -52,4 +53,23 @@ test('features are found by layer, key, value and id', () => {
 test('it looks in the layers that are chosen, and counts what it does not list', () => {
   assert.deepEqual(finder.find('', new Set([1]), 10), { first: [{ layer: 1, feature: 0 }], count: 1 });
   assert.deepEqual(finder.find('', both, 1), { first: [{ layer: 0, feature: 0 }], count: 3 });
+});
+
+test('a feature in a line: its name, or else its first tag', () => {
+  const line = (/** @type {number} */ layer, /** @type {number} */ feature) => featureLine({ layers: LAYERS }, { layer, feature });
+  assert.deepEqual(line(0, 0), { title: 'roads, feature 0', more: 'POINT, id 7, class: "Path"' });
+  assert.deepEqual(line(0, 1), { title: 'roads, feature 1', more: 'POINT, name: "Am Park"' });
+  assert.deepEqual(line(1, 0), { title: 'parks, feature 0', more: 'POINT, id 18446744073709551615' });
+});
+
+test('thousands of tags with one value of a megabyte take no memory to speak of', () => {
+  const count = 20000, long = 'x'.repeat(1 << 20);
+  const feature = { geometry: [], id: null, tags: Array.from({ length: 2 * count }, (_, at) => (at % 2 ? 0 : at / 2)), type: 1 };
+  const layer = { extent: 4096, name: long, version: 2, keys: Array.from({ length: count }, (_, at) => (at ? String(at) : long)), values: [{ string: long }], features: [feature] };
+  const { title, more } = featureLine({ layers: [layer] }, { layer: 0, feature: 0 });
+  assert.ok(title.length < 150 && more.length < 300, `${title.length} ${more.length}`);
+  const { listed, count: all } = listedTags(layer, feature);
+  assert.equal(all, count);
+  assert.equal(listed.length, 200);
+  assert.ok(listed.every(({ key, value }) => key.length <= 2000 && value.length <= 2002));
 });

@@ -1,6 +1,8 @@
 import assert from 'node:assert/strict';
 import { test } from 'node:test';
 import { gunzipSync, gzipSync, deflateSync, inflateSync } from 'node:zlib';
+import { OutOfMemory, Stopped } from '../../../bindings/js/src/gate/errors.js';
+import { Unreadable } from '../../site/app/files/read.js';
 import { mendAll } from '../../site/app/mend/all.js';
 import { placeAfter } from '../../site/app/mend/features.js';
 import { fileNameOf, mendedName, packedAs } from '../../site/app/mend/file.js';
@@ -64,6 +66,8 @@ test('a mended tile is packed as it came', async () => {
   assert.deepEqual(new Uint8Array(inflateSync(await as(deflateSync('other')))), tile);
 });
 
+const GOES_ON = new AbortController().signal;
+
 /** Files in each state, and a gate that mends those of two bytes. */
 function filesAndGate() {
   const entries = [['valid', 1], ['fault', 2], ['fault', 3], ['unreadable', 0], ['fault', 2]]
@@ -81,7 +85,7 @@ function filesAndGate() {
 
 test('all files with a fault are mended', async () => {
   const { checks, gate, asked } = filesAndGate(), said = [];
-  const { archive, sentence } = await mendAll(checks, gate, true, (it) => said.push(it));
+  const { archive, sentence } = await mendAll(checks, gate, true, (it) => said.push(it), GOES_ON);
   assert.deepEqual(asked, [[2, 'feature', true], [3, 'feature', true], [2, 'feature', true]]);
   assert.equal(sentence, "2 mended tiles of 3 files with a fault. 1 file can't be mended.");
   assert.deepEqual(said, ['Mending 1 of 3 files ..', 'Mending 2 of 3 files ..', 'Mending 3 of 3 files ..']);
@@ -92,5 +96,39 @@ test('all files with a fault are mended', async () => {
 test('no archive where nothing was mended', async () => {
   const { checks, gate } = filesAndGate();
   checks.entries = checks.entries.filter(({ name }) => name === '2.mvt');
-  assert.deepEqual(await mendAll(checks, gate, false, () => {}), { archive: null, sentence: "0 mended tiles of 1 file with a fault. 1 file can't be mended." });
+  assert.deepEqual(await mendAll(checks, gate, false, () => {}, GOES_ON), { archive: null, sentence: "0 mended tiles of 1 file with a fault. 1 file can't be mended." });
 });
+
+test('a file that can\'t be read, and one for which memory is refused, are left out', async () => {
+  const { checks, gate } = filesAndGate(), { tileOf } = checks, { mend } = gate;
+  checks.tileOf = async (/** @type {any} */ entry) => {
+    if (entry.name === '2.mvt') throw new Unreadable('the browser could not read the file');
+    return tileOf(entry);
+  };
+  const first = await mendAll(checks, gate, false, () => {}, GOES_ON);
+  assert.equal(first.sentence, '2 mended tiles of 3 files with a fault. There was no answer for 1 file: the browser could not read the file.');
+  assert.ok(first.archive);
+  checks.tileOf = tileOf;
+  let asked = 0;
+  gate.mend = async (/** @type {any[]} */ ...given) => {
+    asked += 1;
+    if (asked === 1) throw new OutOfMemory();
+    return mend(...given);
+  };
+  const second = await mendAll(checks, gate, false, () => {}, GOES_ON);
+  assert.equal(second.sentence, "1 mended tile of 3 files with a fault. 1 file can't be mended. There was no answer for 1 file: the browser refused the memory that the check needs.");
+});
+
+for (const [when, at] of [['is read', 'tileOf'], ['is mended', 'mend']]) {
+  test(`it ends where it is stopped while a file ${when}`, async () => {
+    const { checks, gate, asked } = filesAndGate(), controller = new AbortController();
+    const of = at === 'mend' ? gate : checks, before = of[at];
+    of[at] = async (/** @type {any[]} */ ...given) => {
+      const answer = await before(...given);
+      controller.abort(new Stopped());
+      return answer;
+    };
+    await assert.rejects(mendAll(checks, gate, false, () => {}, controller.signal), Stopped);
+    assert.equal(asked.length, at === 'mend' ? 1 : 0);
+  });
+}

@@ -169,6 +169,20 @@ def test_samples_of_the_page(page: Page) -> None:
         assert link == link_of(path_of(name).read_bytes(), profile)
 
 
+def test_a_sample_once_more(page_in_each: Page) -> None:
+    """When all files were removed the address is still the sample's."""
+    page = page_in_each
+    page.click("[data-sample=crossing_edges]")
+    page.until_shown("tile of the link")
+    page.choose(POINT)
+    page.click("#clear")
+    assert page.is_visible("samples-title") and not page.is_visible("answer")
+    page.click("[data-sample=crossing_edges]")
+    page.until("return document.getElementById('answer').checkVisibility()")
+    page.until_shown("tile of the link")
+    assert page.fault in accepted("crossing_edges", "polygon")
+
+
 PACKINGS: Dict[str, Callable[[bytes, int], bytes]] = {"gzip": gzip.compress, "zlib": zlib.compress}
 by_each_packing = pytest.mark.parametrize("packing", PACKINGS)
 

@@ -64,6 +64,11 @@ test('CSV', () => {
   ]);
 });
 
+test('a name in CSV is no formula of a spreadsheet', () => {
+  const [, line] = csvOf({ ...TABLE, layers: ['=HYPERLINK("https://example.org")', '-1'] }, [0, 1], ['=a.mbtiles', 'b.mbtiles']).split('\r\n');
+  assert.equal(line, `'=a.mbtiles,5,2,9,"'=HYPERLINK(""https://example.org"")",7,504,Edge 0 meets edge 2,-157.5,60.25`);
+});
+
 test('GeoJSON: points, and boxes against the clock', () => {
   const { type, features } = JSON.parse(geojsonOf(TABLE, [0, 2], PATHS));
   assert.equal(type, 'FeatureCollection');

@@ -18,6 +18,7 @@ export class NodeWorker {
       this.onmessage?.({ data });
     });
     this.#worker.on('error', ({ message }) => this.onerror?.({ message }));
+    this.#worker.on('exit', () => this.onerror?.({ message: 'the worker ended' })); // (by itself, with no error)
     this.#worker.unref();
   }
 

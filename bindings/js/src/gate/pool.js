@@ -131,8 +131,8 @@ export class Pool {
       const job = { call, tile, given, transfer: options.transfer, stop: () => {}, resolve, reject };
       abort = () => {
         this.#waiting.delete(job);
-        job.stop();
         reject(signal?.reason);
+        job.stop();
       };
       signal?.addEventListener('abort', abort);
       this.#waiting.add(job);
@@ -140,14 +140,23 @@ export class Pool {
     }).finally(() => signal?.removeEventListener('abort', abort));
   }
 
-  /** Has as many calls begin as there are workers with nothing to do. */
+  /**
+   * Has as many calls begin as there are workers with nothing to do. Where the system refuses a further worker, calls wait for those
+   * there are; where there are none, they end with its error.
+   */
   #begin() {
     for (const job of this.#waiting) {
-      const gate = this.#idle.pop() ?? (this.#gates.size < this.size ? this.#newGate() : null);
-      if (!gate) return;
-      this.#gates.add(gate);
-      this.#waiting.delete(job);
-      this.#make(gate, job);
+      try {
+        const gate = this.#idle.pop() ?? (this.#gates.size < this.size ? this.#newGate() : null);
+        if (!gate) return;
+        this.#gates.add(gate);
+        this.#waiting.delete(job);
+        this.#make(gate, job);
+      } catch (error) {
+        if (this.#gates.size > 0) return;
+        this.#waiting.delete(job);
+        job.reject(error);
+      }
     }
   }
 

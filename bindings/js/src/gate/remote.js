@@ -26,6 +26,7 @@ export class RemoteGate {
   /** @type {GateWorker} */
   #worker;
   #isBroken = false;
+  #isClosed = false;
   #asked = 0;
   /** @type {Map<number, Waiting>} */
   #waiting = new Map();
@@ -51,9 +52,11 @@ export class RemoteGate {
   /** @returns {Promise<string>} */
   #begin() {
     const worker = this.#worker;
-    worker.onmessage = (/** @type {{data: Reply}} */ { data }) => this.#take(data);
+    // (a worker that was ended may still have a reply on its way, and one of Node says that it ended)
+    const isOver = () => this.#isClosed || worker !== this.#worker;
+    worker.onmessage = (/** @type {{data: Reply}} */ { data }) => isOver() || this.#take(data);
     worker.onerror = (/** @type {{message?: string}} */ event) => {
-      if (worker !== this.#worker) return;
+      if (isOver()) return;
       this.#isBroken = true;
       this.#rejectAll(new Error(event.message || 'the worker failed'));
     };
@@ -71,7 +74,7 @@ export class RemoteGate {
     else if (reply.error.name === 'OutOfMemory') waiting?.reject(new OutOfMemory());
     else if (reply.error.name === 'TypeError') waiting?.reject(new TypeError(reply.error.message));
     else waiting?.reject(new Error(reply.error.message));
-    if (reply.memory > MUCH_MEMORY && this.#waiting.size === 0) this.#replace();
+    if (reply.memory > MUCH_MEMORY && this.#waiting.size === 0) this.#tryToReplace();
   }
 
   /** @param {Error} error */
@@ -111,6 +114,7 @@ export class RemoteGate {
    * @returns {Promise<Answered>}
    */
   async ask(call, tile, others, isGiven = false) {
+    if (this.#isClosed) throw new Stopped();
     if (this.#isBroken) this.#replace();
     // (one that was handed over before has no bytes any more, and can't be copied)
     const isAlone = tile.byteLength > 0 && tile.byteLength === tile.buffer.byteLength && tile.buffer instanceof ArrayBuffer;
@@ -197,19 +201,30 @@ export class RemoteGate {
   /** Ends the worker, whatever it does. The calls that wait are rejected with Stopped, and a new worker takes further calls. */
   stop() {
     this.#rejectAll(new Stopped());
-    this.#replace();
+    this.#tryToReplace();
   }
 
   /** Ends the worker for good. */
   close() {
+    this.#isClosed = true;
     this.#rejectAll(new Stopped());
     this.#worker.terminate();
   }
 
+  /** Replaces the worker before it is needed. Where none can be made now, the next call tries it again. */
+  #tryToReplace() {
+    try {
+      this.#replace();
+    } catch {
+      // (it counts as broken)
+    }
+  }
+
   #replace() {
     this.#worker.terminate();
-    this.#isBroken = false;
+    this.#isBroken = true; // as long as there is no other one
     this.#worker = this.#newWorker();
+    this.#isBroken = false;
     this.ready = this.#begin();
   }
 }

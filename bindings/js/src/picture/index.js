@@ -11,7 +11,6 @@
 // data-from and data-to of edges, such as '0 8'; and data-extent.
 
 import { typeName } from '../tile/layers.js';
-import { isolated } from '../words/isolated.js';
 import { pictureOfBytes } from './kinds/bytes.js';
 import { pictureOfCommands } from './kinds/commands.js';
 import { pictureOfFeature } from './kinds/feature.js';
@@ -24,7 +23,7 @@ import { pictureOfTags } from './kinds/tags.js';
 import { pictureOfVertexInHole, pictureOfVertexInPolygon, pictureOfVertexOutside } from './kinds/vertex.js';
 import { pictureTree } from './svg.js';
 import { fileOf } from './tree.js';
-import { cut } from './words.js';
+import { quotedName } from './words.js';
 
 export { mapOfTile, pictureOfFeature, pictureOfMended };
 
@@ -36,7 +35,6 @@ export { mapOfTile, pictureOfFeature, pictureOfMended };
 /** @typedef {{width: number, height: number}} Size */
 
 const SIZE = { width: 800, height: 600 };
-const LONGEST_NAME = 60;
 
 /**
  * How to draw the faults that are in a feature.
@@ -74,7 +72,7 @@ export function pictureOfFault(fault, tile, record) {
  */
 function featurePlace(fault, { id, type }, { name }) {
   const idText = id === null || id === undefined ? '' : `, id ${id}`;
-  const layerText = `layer ${fault.layer} (${isolated(cut(JSON.stringify(name), LONGEST_NAME))})`;
+  const layerText = `layer ${fault.layer} (${quotedName(name)})`;
   return { name: 'feature', text: `${fault.feature} of ${layerText}, ${typeName(type)}${idText}` };
 }
 

@@ -8,6 +8,7 @@ import { isolated } from '../words/isolated.js';
 
 const MOST_PLACES = 40;
 const LONGEST_TEXT = 32; // letters of a text among bytes
+const LONGEST_NAME = 60; // (browsers take minutes for a line of megabytes whose letters run in both directions)
 
 /**
  * @param {{x: number, y: number}} position
@@ -79,6 +80,15 @@ export function ringList(rings) {
  */
 export function cut(text, most) {
   return text.length > most ? `${text.slice(0, most - 1)}…` : text;
+}
+
+/**
+ * A layer's name in quotes, or its beginning where it is long.
+ * @param {string} name
+ * @returns {string}
+ */
+export function quotedName(name) {
+  return isolated(cut(JSON.stringify(name), LONGEST_NAME));
 }
 
 /**

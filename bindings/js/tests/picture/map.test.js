@@ -87,3 +87,9 @@ test('a feature by itself', () => {
 test('what can\'t be followed to its end is said', () => {
   assert.match(pictureOfFeature({ ...TRIANGLE, geometry: [9, 6, 12, 11, 4] }, 4096).words, /1 position in 1 path, as far as the first 3 of 5 numbers lead\./);
 });
+
+test('a very long name of a layer is cut, with its letters from right to left in an isolate', () => {
+  const layer = { extent: 4096, features: [], keys: [], name: 'a\u05d0'.repeat(500000), values: [], version: 2 };
+  const [{ text }] = mapOfTile({ layers: [layer] }).places;
+  assert.ok(text.length < 100 && text.startsWith('\u2068"a\u05d0') && text.endsWith('…\u2069: no features'), text.slice(0, 200));
+});

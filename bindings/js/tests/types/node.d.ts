@@ -19,6 +19,7 @@ declare module 'node:worker_threads' {
     constructor(script: URL, options: { execArgv: string[] });
     on(event: 'message', listener: (message: any) => void): void;
     on(event: 'error', listener: (error: Error) => void): void;
+    on(event: 'exit', listener: () => void): void;
     postMessage(message: any, moved: any[]): void;
     ref(): void;
     unref(): void;

@@ -17,18 +17,29 @@ const ANSWERS = {
 export class ConfirmForm {
   #claim = byId('claim', HTMLTextAreaElement);
   #told = byId('told', HTMLElement);
+  #turns = 0; // each question has its own, and each tile that is shown
 
   /** @param {(claim: string) => Promise<Confirmation>} confirm asks the checker, of the tile that is shown */
   constructor(confirm) {
     byId('ask', HTMLButtonElement).addEventListener('click', async () => {
+      const isCurrent = this.#begin();
       this.#told.textContent = 'The checker is at work.';
       const answer = confirm(this.#claim.value).then((it) => ANSWERS[it]);
-      this.#told.textContent = await answer.catch((error) => `No answer: ${reasonOf(error)}.`);
+      const said = await answer.catch((error) => `No answer: ${reasonOf(error)}.`);
+      if (isCurrent()) this.#told.textContent = said; // (an answer on the tile before would stand beside this one)
     });
+  }
+
+  /** @returns {() => boolean} whether nothing else was asked or shown since */
+  #begin() {
+    this.#turns += 1;
+    const turn = this.#turns;
+    return () => turn === this.#turns;
   }
 
   /** @param {string} claim to begin with */
   show(claim) {
+    this.#begin();
     this.#claim.value = claim;
     this.#told.textContent = '';
   }

@@ -1,11 +1,12 @@
 // The archive that is open: a grid of its tiles by zoom, from which tiles are picked to be checked.
 
-import { newEntry, reasonOf } from '../files/checks.js';
+import { reasonOf } from '../files/checks.js';
 import { verdictText } from '../files/words.js';
 import { byId, element } from '../tools/dom.js';
 import { counted } from '../tools/text.js';
 import { Grid } from './grid.js';
 import { openArchive } from './open.js';
+import { Picks } from './picks.js';
 import { atZoom, isIn, middlePlace, movedBy, nearest, placeOfText, placeText, placesIn, windowAround } from './window.js';
 
 /** @typedef {import('../files/checks.js').Entry} Entry */
@@ -13,7 +14,7 @@ import { atZoom, isIn, middlePlace, movedBy, nearest, placeOfText, placeText, pl
 /** @typedef {import('./open.js').Place} Place */
 /** @typedef {import('./window.js').Window} Window */
 /** @typedef {{add: (entries: Entry[]) => void, choose: (entry: Entry) => void, tell: (sentence: string) => void}} Calls */
-/** @typedef {{archive: Archive, name: string, zooms: number[]}} Opened */
+/** @typedef {{archive: Archive, name: string, zooms: number[], picks: Picks}} Opened */
 
 const SIDES = { 'archive-west': [-1, 0], 'archive-north': [0, -1], 'archive-south': [0, 1], 'archive-east': [1, 0] };
 
@@ -26,8 +27,6 @@ export class ArchivePanel {
   #cursor = { zoom: 0, column: 0, row: 0 };
   /** @type {Map<string, Place>} the tiles in the window, by their names */
   #present = new Map();
-  /** @type {Map<string, Entry>} the tiles that were picked, by their names */
-  #entries = new Map();
   /** @type {Entry|null} */
   #shown = null;
   #turns = 0; // each window that is shown has its own
@@ -78,7 +77,7 @@ export class ArchivePanel {
   async open(kind, { name, file }, note) {
     const archive = await openArchive(kind, file), zooms = await archive.zooms();
     this.close();
-    this.#opened = { archive, name, zooms };
+    this.#opened = { archive, name, zooms, picks: new Picks(archive, name) };
     this.#section.hidden = false;
     byId('archive-name', HTMLElement).textContent = name;
     byId('archive-note', HTMLElement).textContent = note;
@@ -90,15 +89,15 @@ export class ArchivePanel {
   close() {
     this.#turns += 1;
     this.#opened = null;
-    this.#entries.clear();
     this.#section.hidden = true;
     this.#place.value = '';
   }
 
   /** Forgets which tiles were picked. */
   forget() {
-    this.#entries.clear();
-    if (this.#opened) this.#grid.show(this.#window, this.#cursor);
+    if (!this.#opened) return;
+    this.#opened.picks.clear();
+    this.#grid.show(this.#window, this.#cursor);
   }
 
   /** @param {Entry|null} entry that is shown now */
@@ -118,9 +117,10 @@ export class ArchivePanel {
    * @returns {import('./grid.js').Look}
    */
   #lookOf(place) {
-    const name = placeText(place), entry = this.#entries.get(name);
+    const entry = this.#opened?.picks.entryOf(place), reason = this.#opened?.picks.reasonOf(place);
     if (entry) return { state: entry.state, says: verdictText(entry), isShown: entry === this.#shown };
-    return { isShown: false, ...(this.#present.has(name) ? { state: 'tile', says: 'not checked' } : { state: 'empty', says: 'no tile' }) };
+    if (reason) return { state: 'unreadable', says: `couldn't be read: ${reason}`, isShown: false };
+    return { isShown: false, ...(this.#present.has(placeText(place)) ? { state: 'tile', says: 'not checked' } : { state: 'empty', says: 'no tile' }) };
   }
 
   /**
@@ -219,33 +219,22 @@ export class ArchivePanel {
    * @param {Place} place
    */
   async #pick(place) {
-    const known = this.#entries.get(placeText(place));
-    if (known) return this.#calls.choose(known);
-    const entry = await this.#entryOf(place);
-    if (entry) this.#calls.add([entry]);
+    const opened = this.#opened, added = await opened?.picks.pick(place).finally(() => this.#grid.update(place));
+    if (!opened || opened !== this.#opened) return;
+    const known = opened.picks.entryOf(place);
+    if (added) this.#calls.add([added]);
+    else if (known) this.#calls.choose(known);
     else this.#calls.tell(`The archive has no tile ${placeText(place)}.`);
   }
 
-  /** Opens all tiles in the grid that weren't picked before. */
+  /** Opens all tiles in the grid that weren't picked before. Those that can't be read are marked in it. */
   async #pickAll() {
-    const entries = [];
-    for (const [name, place] of this.#present) {
-      const entry = this.#entries.has(name) ? null : await this.#entryOf(place);
-      if (entry) entries.push(entry);
-    }
+    const opened = this.#opened, places = [...this.#present.values()];
+    const { entries, unread } = (await opened?.picks.pickAll(places)) ?? { entries: [], unread: 0 };
+    if (!opened || opened !== this.#opened) return;
+    for (const place of places) this.#grid.update(place);
     if (entries.length) this.#calls.add(entries);
-    else this.#calls.tell(this.#present.size ? 'All tiles in the grid are checked.' : 'No tile is in the grid.');
-  }
-
-  /**
-   * @param {Place} place
-   * @returns {Promise<Entry|null>} a file for a tile, which counts as picked
-   */
-  async #entryOf(place) {
-    const opened = this.#opened, file = await opened?.archive.tile(place), name = placeText(place);
-    if (!opened || !file || opened !== this.#opened) return null;
-    const entry = newEntry(`${opened.name} ${name}`, file, { archive: opened.name, ...place });
-    this.#entries.set(name, entry);
-    return entry;
+    if (unread) this.#calls.tell(`${counted(unread, 'tile')} in the grid couldn't be read.`);
+    else if (!entries.length) this.#calls.tell(places.length ? 'All tiles in the grid are checked.' : 'No tile is in the grid.');
   }
 }

@@ -1,5 +1,6 @@
 // The list of layers: which are chosen, and the keys and values of each.
 
+import { cut } from '../../../../bindings/js/src/picture/words.js';
 import { featureCounts, valueText } from '../../../../bindings/js/src/tile/layers.js';
 import { isolated } from '../../../../bindings/js/src/words/isolated.js';
 import { element } from '../tools/dom.js';
@@ -10,6 +11,10 @@ import { counted, digits } from '../tools/text.js';
 
 /** How many keys, and how many values, are listed of a layer. */
 const LISTED = 200;
+
+/** Letters of a name, and of a key or a value. Browsers take minutes for megabytes in a line whose letters run in both directions. */
+const LETTERS_OF_NAME = 200;
+const LETTERS = 1000;
 
 /** How many layers are listed. Tiles have a few; a million would take a browser's memory. */
 const LISTED_LAYERS = 1000;
@@ -46,13 +51,13 @@ export class LayerList {
 
   /** @param {Layer} layer */
   #line(layer) {
-    const name = isolated(layer.name);
+    const shown = cut(layer.name, LETTERS_OF_NAME), name = isolated(shown);
     const box = element('input', { type: 'checkbox' });
     box.checked = true;
     box.addEventListener('change', this.#changed);
     this.#boxes.push(box);
     return element('li', {},
-      element('label', {}, box, element('span', { class: 'layer-name' }, layer.name || '(no name)')),
+      element('label', {}, box, element('span', { class: 'layer-name' }, shown || '(no name)')),
       element('p', { class: 'small' }, `${featureCounts(layer)}; extent ${digits(layer.extent)}, version ${layer.version}`),
       this.#texts(`${counted(layer.keys.length, 'key')} of ${name}`, layer.keys.length, (at) => layer.keys[at]),
       this.#texts(`${counted(layer.values.length, 'value')} of ${name}`, layer.values.length, (at) => valueText(layer.values[at])));
@@ -68,7 +73,7 @@ export class LayerList {
     if (count === 0) return '';
     const details = element('details', { class: 'small' }, element('summary', {}, title));
     details.addEventListener('toggle', () => {
-      const items = Array.from({ length: Math.min(count, LISTED) }, (_, at) => element('li', { value: at }, textAt(at)));
+      const items = Array.from({ length: Math.min(count, LISTED) }, (_, at) => element('li', { value: at }, cut(textAt(at), LETTERS)));
       const rest = count > LISTED ? element('p', {}, `The first ${digits(LISTED)} of ${digits(count)} are listed.`) : '';
       details.append(element('ol', { start: 0 }, ...items), rest);
     }, { once: true });

@@ -9,11 +9,13 @@
  * @param {Layer} layer
  * @param {Feature} feature
  * @param {(value: Layer['values'][number]) => string} textOfValue
+ * @param {number} [first] the place of the first tag's key
+ * @param {number} [most] tags
  * @returns {{key: string, value: string}[]}
  */
-export function tagsOf(layer, feature, textOfValue) {
+export function tagsOf(layer, feature, textOfValue, first = 0, most = Infinity) {
   const tags = [];
-  for (let at = 0; at < feature.tags.length; at += 2) {
+  for (let at = first; at < feature.tags.length && tags.length < most; at += 2) {
     const [key, value] = [feature.tags[at], feature.tags[at + 1]];
     tags.push({ key: layer.keys[key] ?? `(no key ${key})`, value: valueAt(layer, value, textOfValue) });
   }

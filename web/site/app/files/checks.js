@@ -53,6 +53,11 @@ export function newEntry(name, file, place = null) {
   };
 }
 
+/** @returns {{entry: Entry|null, tile: Promise<Uint8Array>}} */
+function nothingRead() {
+  return { entry: null, tile: Promise.resolve(new Uint8Array()) };
+}
+
 /** @returns {Counts} of no files */
 function noCounts() {
   return { waiting: 0, checking: 0, valid: 0, fault: 0, unreadable: 0, stopped: 0 };
@@ -71,8 +76,7 @@ export class Checks {
   #isRunning = false;
   /** @type {{entry: Entry}|null} the check that goes on */
   #current = null;
-  /** @type {{entry: Entry|null, tile: Promise<Uint8Array>}} the tile that was read last, which is mostly the one that is shown */
-  #latest = { entry: null, tile: Promise.resolve(new Uint8Array()) };
+  #latest = nothingRead(); // the tile that was read last, which is mostly the one that is shown
 
   /**
    * @param {Gate} gate
@@ -107,7 +111,7 @@ export class Checks {
     this.entries = [];
     this.counts = noCounts();
     this.#following = 0;
-    this.#latest = { entry: null, tile: Promise.resolve(new Uint8Array()) };
+    this.#latest = nothingRead();
   }
 
   /**
@@ -115,6 +119,7 @@ export class Checks {
    * @param {Entry} entry
    */
   again(entry) {
+    if (this.#latest.entry === entry) this.#latest = nothingRead(); // (it may be there again, or be another one)
     this.#set(entry, { state: 'waiting' });
     this.#following = 0;
     this.#run();

@@ -3,6 +3,7 @@
 import { explainFault } from '../../../../bindings/js/src/words/explain.js';
 import { pointOf } from './about.js';
 import { addressOf, addressText, boxOn, positionOn } from './address.js';
+import { csvText, plain } from '../tools/csv.js';
 
 /** @typedef {import('../files/checks.js').Entry} Entry */
 /** @typedef {import('./address.js').Address} Address */
@@ -14,7 +15,7 @@ const COLUMNS = ['file', 'verdict', 'code', 'title', 'layer', 'layer_name', 'fea
  * @param {Entry[]} entries
  */
 export function csvOf(entries) {
-  return [COLUMNS, ...judged(entries).map(rowOf)].map((row) => `${row.map(cellOf).join(',')}\r\n`).join('');
+  return csvText([COLUMNS, ...judged(entries).map(rowOf)]);
 }
 
 /** @param {Entry[]} entries */
@@ -34,20 +35,6 @@ function rowOf({ name, state, reason, fault, said, about }) {
     plain(name), 'fault', fault.code, title, fault.layer ?? fault.first ?? '', plain(about?.layer ?? ''), fault.feature ?? '', about?.featureId ?? '',
     ...(position ?? ['', '']), sentence, said,
   ];
-}
-
-/**
- * A text that spreadsheets don't take for a formula.
- * @param {string} text
- */
-function plain(text) {
-  return /^[=+\-@\t\r]/.test(text) ? `'${text}` : text;
-}
-
-/** @param {string|number} content */
-function cellOf(content) {
-  const text = String(content);
-  return /[",\r\n]/.test(text) ? `"${text.replaceAll('"', '""')}"` : text;
 }
 
 /**

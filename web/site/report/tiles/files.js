@@ -1,5 +1,6 @@
 // Faults of the list as files: CSV (RFC 4180), and GeoJSON (RFC 7946) as the run itself writes it.
 
+import { csvText, plain } from '../../app/tools/csv.js';
 import { tileName } from './listing.js';
 
 /** @typedef {import('./listing.js').Table} Table */
@@ -14,17 +15,11 @@ const DIGITS = 9;
  */
 export function csvOf(table, listed, sources) {
   const lines = listed.map((at) => {
-    const layer = table.layers[table.layer[at]] ?? '', [longitude, latitude] = table.point[at] ?? ['', ''];
-    return [sources[table.source[at]], table.zoom[at], table.column[at], table.row[at], layer, table.id[at] ?? '', table.code[at],
+    const layer = plain(table.layers[table.layer[at]] ?? ''), [longitude, latitude] = table.point[at] ?? ['', ''];
+    return [plain(sources[table.source[at]]), table.zoom[at], table.column[at], table.row[at], layer, table.id[at] ?? '', table.code[at],
       table.sentence[at], longitude, latitude];
   });
-  return [HEAD, ...lines].map((cells) => `${cells.map(quoted).join(',')}\r\n`).join('');
-}
-
-/** @param {string|number} cell */
-function quoted(cell) {
-  const text = String(cell);
-  return /[",\r\n]/.test(text) ? `"${text.replaceAll('"', '""')}"` : text;
+  return csvText([HEAD, ...lines]);
 }
 
 /**

@@ -1,8 +1,8 @@
 // The picture of a fault of layers: the layers as a list.
 
 import { featureCounts } from '../../tile/layers.js';
-import { isolated } from '../../words/isolated.js';
 import { tree } from '../tree.js';
+import { quotedName } from '../words.js';
 
 /** @typedef {import('../types.js').Picture} Picture */
 /** @typedef {import('../types.js').Layer} Layer */
@@ -16,7 +16,7 @@ const ROW = 46, SIDE = 12, TOP = 10, AROUND = 4;
  */
 const SAID = {
   201: { says: 'version isn\'t 2', words: ([layer], layers) => `Layer ${layer} has version ${layers[layer].version}, and version 2 is required.` },
-  202: { says: 'same name', words: ([first, second], layers) => `Layers ${first} and ${second} are both named ${nameText(layers[first])}.` },
+  202: { says: 'same name', words: ([first, second], layers) => `Layers ${first} and ${second} are both named ${quotedName(layers[first].name)}.` },
 };
 
 /**
@@ -33,15 +33,10 @@ export function pictureOfLayers(fault, { layers }) {
     words: words(named, layers),
     places: rows.map(({ ordinal, layer, says }) => ({
       name: `layer ${ordinal}`,
-      text: `${nameText(layer)}, version ${layer.version}, ${featureCounts(layer)}${says && `: ${says}`}`,
+      text: `${quotedName(layer.name)}, version ${layer.version}, ${featureCounts(layer)}${says && `: ${says}`}`,
     })),
     plane: null, strip: (width) => stripOf(rows, width), box: null, close: null, tile: null,
   };
-}
-
-/** @param {Layer} layer */
-function nameText({ name }) {
-  return isolated(JSON.stringify(name));
 }
 
 /**

@@ -2,11 +2,10 @@
 
 import { LINESTRING, POINT, POLYGON, followCommands } from '../../tile/commands.js';
 import { featureCounts } from '../../tile/layers.js';
-import { isolated } from '../../words/isolated.js';
 import { emptyBox, extentBox, isEmpty, union, withMargin } from '../plane/box.js';
 import { isShape, line, shape } from '../plane/scene.js';
 import { LAYER_LOOKS } from '../style.js';
-import { counted } from '../words.js';
+import { counted, quotedName } from '../words.js';
 
 /** @typedef {import('../types.js').Picture} Picture */
 /** @typedef {import('../types.js').Layer} Layer */
@@ -87,7 +86,7 @@ function merged(shapes) {
  */
 function placesOf(layers) {
   const places = layers.slice(0, MOST_PLACES).map((layer, ordinal) => ({
-    name: `layer ${ordinal}`, text: `${isolated(JSON.stringify(layer.name))}: ${featureCounts(layer)}`, sample: `map-line ${layerStyle(ordinal)}`,
+    name: `layer ${ordinal}`, text: `${quotedName(layer.name)}: ${featureCounts(layer)}`, sample: `map-line ${layerStyle(ordinal)}`,
   }));
   return layers.length > MOST_PLACES ? [...places, { name: 'more layers', text: String(layers.length - MOST_PLACES) }] : places;
 }

@@ -1,0 +1,65 @@
+// What is pasted, and links in the page, over stand-ins for its elements.
+import assert from 'node:assert/strict';
+import { beforeEach, test } from 'node:test';
+import { setImmediate } from 'node:timers/promises';
+
+const TILE = '#tile=GgA&profile=feature', OTHER = '#tile=GgB';
+
+class Stand extends EventTarget {
+  hash = '';
+  closest() {
+    return this;
+  }
+}
+const page = new Stand(), location = { hash: '' };
+Object.assign(globalThis, {
+  Element: Stand, HTMLInputElement: class extends Stand {}, HTMLTextAreaElement: class extends Stand {}, location,
+  document: Object.assign(page, { getElementById: () => new HTMLInputElement() }), addEventListener: () => {},
+});
+const { receiveFiles, receiveLinks } = await import('../../site/app/incoming.js');
+
+/** @type {string[]} what came in, and what was refused */
+const came = [];
+const receiver = {
+  take: (/** @type {import('../../site/app/files/gather.js').Source[]} */ sources) => came.push(...sources.map(({ name }) => name)),
+  setProfile: (/** @type {string} */ profile) => came.push(profile),
+  refuse: (/** @type {unknown} */ _, /** @type {string} */ name) => came.push(`no ${name}`),
+};
+receiveFiles(receiver);
+receiveLinks(receiver);
+beforeEach(() => { came.length = 0; });
+
+/** @param {string} text @param {...string} files their names */
+async function paste(text, ...files) {
+  const items = [...(text ? [{ kind: 'string' }] : []), ...files.map((name) => ({ kind: 'file', webkitGetAsEntry: () => null, getAsFile: () => ({ name }) }))];
+  page.dispatchEvent(Object.assign(new Event('paste'), { clipboardData: { getData: () => text, items } }));
+  await setImmediate();
+  return came.splice(0);
+}
+
+test('what is pasted is a text with a tile, or else files', async () => {
+  assert.deepEqual(await paste('1a00'), ['pasted tile']);
+  assert.deepEqual(await paste(`https://example.org/${TILE}`), ['feature', 'pasted link']);
+  assert.deepEqual(await paste('some words'), ['no pasted text']);
+  assert.deepEqual(await paste('', 'a.mvt', 'b.mvt'), ['a.mvt', 'b.mvt']);
+  // (the names of files beside them; a picture of cells beside their text)
+  assert.deepEqual(await paste('/home/a.mvt', 'a.mvt'), ['a.mvt']);
+  assert.deepEqual(await paste('1a00', 'cells.png'), ['pasted tile']);
+});
+
+/** @param {string} hash of the link @param {object} keys that are held */
+function click(hash, keys = {}) {
+  const link = Object.assign(new Stand(), { hash }), event = Object.assign(new Event('click'), keys);
+  Object.defineProperty(event, 'target', { value: link });
+  page.dispatchEvent(event);
+  return came.splice(0);
+}
+
+test('a link to the tile that the address has already brings it once more', () => {
+  location.hash = TILE;
+  assert.deepEqual(click(TILE), ['feature', 'tile of the link']);
+  assert.deepEqual(click(OTHER), []); // (the address changes then)
+  assert.deepEqual(click(TILE, { ctrlKey: true }), []); // (which opens it elsewhere)
+  location.hash = '';
+  assert.deepEqual(click(''), []);
+});
