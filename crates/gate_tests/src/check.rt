@@ -18,6 +18,8 @@ const TILES: &str = r#"
 1a 0f 78 02 0a 01 61 12 08 18 01 22 02 09 32 20 22 => {"ok":true}
 # its version in two bytes
 1a 0f 78 82 00 0a 01 61 12 07 18 01 22 03 09 32 22 => {"ok":true}
+# a bool of 64 bits
+1a 12 78 02 0a 01 61 22 0b 38 ff ff ff ff ff ff ff ff ff 01 => {"ok":true}
 # fields that no message knows
 08 05 => {"ok":true}
 09 00 00 00 00 00 00 00 00 15 01 02 03 04 => {"ok":true}
@@ -65,15 +67,32 @@ const FAULTS: &str = r#"
 # a layer
 1a 17 78 82 80 80 80 80 80 80 80 80 02 0a 01 61 12 07 18 01 22 03 09 32 22 => {"at":3,"code":102,"field":15,"layer":0,"scope":"layer"}
 1a 06 7a 01 02 0a 01 61 => {"at":2,"code":106,"field":15,"layer":0,"scope":"layer"}
+1a 07 78 02 0a 01 61 10 01 => {"at":7,"code":106,"field":2,"layer":0,"scope":"layer"}
+1a 07 78 02 0a 01 61 20 01 => {"at":7,"code":106,"field":4,"layer":0,"scope":"layer"}
 1a 07 78 02 78 02 0a 01 61 => {"at":4,"code":107,"field":15,"layer":0,"scope":"layer"}
+1a 08 78 02 0a 01 61 0a 01 62 => {"at":7,"code":107,"field":1,"layer":0,"scope":"layer"}
+1a 09 78 02 0a 01 61 28 01 28 01 => {"at":9,"code":107,"field":5,"layer":0,"scope":"layer"}
 1a 02 78 02 => {"at":4,"code":108,"field":1,"layer":0,"scope":"layer"}
+1a 03 0a 01 61 => {"at":5,"code":108,"field":15,"layer":0,"scope":"layer"}
 1a 00 => {"at":2,"code":108,"field":1,"layer":0,"scope":"layer"}
 1a 05 78 02 0a 01 ff => {"at":4,"code":110,"field":1,"layer":0,"scope":"layer"}
 1a 09 78 80 80 80 80 10 0a 01 61 => {"at":3,"code":111,"field":15,"layer":0,"scope":"layer"}
-# a value
+1a 0b 78 02 0a 01 61 28 80 80 80 80 10 => {"at":8,"code":111,"field":5,"layer":0,"scope":"layer"}
+# a value of none, and of one kind twice
 1a 07 78 02 0a 01 61 22 00 => {"at":9,"code":109,"field":0,"layer":0,"scope":"value","value":0}
+1a 0d 78 02 0a 01 61 22 06 0a 01 61 0a 01 62 => {"at":12,"code":107,"field":1,"layer":0,"scope":"value","value":0}
+1a 11 78 02 0a 01 61 22 0a 15 00 00 00 00 15 00 00 00 00 => {"at":14,"code":107,"field":2,"layer":0,"scope":"value","value":0}
+1a 19 78 02 0a 01 61 22 12 19 00 00 00 00 00 00 00 00 19 00 00 00 00 00 00 00 00 => {"at":18,"code":107,"field":3,"layer":0,"scope":"value","value":0}
+1a 0b 78 02 0a 01 61 22 04 20 01 20 01 => {"at":11,"code":107,"field":4,"layer":0,"scope":"value","value":0}
+1a 0b 78 02 0a 01 61 22 04 28 01 28 01 => {"at":11,"code":107,"field":5,"layer":0,"scope":"value","value":0}
+1a 0b 78 02 0a 01 61 22 04 30 01 30 01 => {"at":11,"code":107,"field":6,"layer":0,"scope":"value","value":0}
+1a 0b 78 02 0a 01 61 22 04 38 01 38 01 => {"at":11,"code":107,"field":7,"layer":0,"scope":"value","value":0}
 # a feature
 1a 0e 78 02 0a 01 61 12 07 18 01 22 03 09 32 a2 => {"at":15,"code":101,"feature":0,"field":4,"layer":0,"scope":"feature"}
+1a 11 78 02 0a 01 61 12 0a 0a 01 07 18 01 22 03 09 32 22 => {"at":9,"code":106,"feature":0,"field":1,"layer":0,"scope":"feature"}
+1a 13 78 02 0a 01 61 12 0c 15 00 00 00 00 18 01 22 03 09 32 22 => {"at":9,"code":106,"feature":0,"field":2,"layer":0,"scope":"feature"}
+1a 12 78 02 0a 01 61 12 0b 08 07 08 07 18 01 22 03 09 32 22 => {"at":11,"code":107,"feature":0,"field":1,"layer":0,"scope":"feature"}
+1a 10 78 02 0a 01 61 12 09 18 01 18 01 22 03 09 32 22 => {"at":11,"code":107,"feature":0,"field":3,"layer":0,"scope":"feature"}
 1a 0c 78 02 0a 01 61 12 05 22 03 09 32 22 => {"at":14,"code":108,"feature":0,"field":3,"layer":0,"scope":"feature"}
 1a 0e 78 02 0a 01 61 12 07 18 04 22 03 09 32 22 => {"at":10,"code":111,"feature":0,"field":3,"layer":0,"scope":"feature"}
 # versions and names of layers
@@ -179,7 +198,7 @@ fn rows_held(rt: &HostRuntime, rows: &str) -> Result<u32, Fail> {
 
 #[test]
 fn judges_tiles(rt: HostRuntime) -> Result<(), Fail> {
-    assert_eq!(rt; rows_held(&rt, TILES)?, 29);
-    assert_eq!(rt; rows_held(&rt, FAULTS)?, 58);
+    assert_eq!(rt; rows_held(&rt, TILES)?, 30);
+    assert_eq!(rt; rows_held(&rt, FAULTS)?, 75);
     Ok(())
 }

@@ -27,13 +27,13 @@ pub(crate) struct NumberedEdge {
 pub(crate) fn passes_over(position: Point, a: Point, b: Point) -> bool
     ensures { IsTrue result ↔ PassesOver position (record { a = a; b = b }) }
 {
-    let begins_after = a.x() <= position.x();
-    let ends_after = b.x() <= position.x();
-    if begins_after == ends_after {
+    let begins_up_to = a.x() <= position.x();
+    let ends_up_to = b.x() <= position.x();
+    if begins_up_to == ends_up_to {
         return false;
     }
     let turn = orient(a, b, position);
-    if begins_after { turn < 0 } else { turn > 0 }
+    if begins_up_to { turn < 0 } else { turn > 0 }
 }
 
 /// Whether two edges are in order: by their rings, and in one ring by their own ordinals.

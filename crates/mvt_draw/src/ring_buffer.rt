@@ -9,7 +9,7 @@ ghost use Rattle.mvt_plane.specs.Commands.Drawing.{path_command};
 ghost use Rattle.mvt_plane.specs.Commands.Figure.{polygon};
 ghost use Rattle.mvt_plane.specs.Commands.Figure as plane;
 ghost use Rattle.mvt_plane.specs.FeatureGeometry.{HasRings};
-ghost use Rattle.mvt_plane.specs.Position.{Position, IsPosition};
+ghost use Rattle.mvt_plane.specs.Position.{Position};
 ghost use Rattle.mvt_plane.specs.Calls.Reading.{StandsAt};
 
 use crate::commands::Cursor;

@@ -163,7 +163,7 @@ data_of (InPolygon layer feature polygon vertex other) = in_polygon_data layer f
 abbrev pub text_of : Fault → List ℕ
 text_of f = compact_text (data_of f)
 
--- a number of a point has 128 bits and a sign
+-- a number of a point has 128 bits, its sign among them
 abbrev pub HasWidth : ℤ → Type 0
 HasWidth z = (neg_ℤ (pos (2 ^ 127)) ≤ℤ z) × (z <ℤ pos (2 ^ 127))
 

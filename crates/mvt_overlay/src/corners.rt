@@ -3,10 +3,7 @@ ghost use Rattle.std.specs.Prelude.{◌≤◌};
 
 mod classes;
 mod cuts;
-mod sail;
 mod star;
-#[cfg(test)]
-mod tests;
 mod wedge;
 
 use crate::boundary::{Boundary, Links, Touch, Traced, add_outlines, trace};
@@ -61,11 +58,40 @@ pub fn add_polygons_apart(
 ) -> Result<bool, AllocError>
     ensures no_more { work.new ≤ work.old }
 {
+    add_after_rounds(alloc, apart, MIXED_ROUNDS, edges, work, tally, outlines)
+}
+
+/// The same, where from the first round on only filled wedges are cut.
+pub fn add_polygons_shrunk(
+    alloc: Global,
+    apart: Apart,
+    edges: Vec<HalfEdge>,
+    work: &mut Work,
+    tally: &mut Tally,
+    outlines: &mut Outlines,
+) -> Result<bool, AllocError>
+    ensures no_more { work.new ≤ work.old }
+{
+    add_after_rounds(alloc, apart, 0, edges, work, tally, outlines)
+}
+
+/// The same, where from the round of this number on only filled wedges are cut.
+fn add_after_rounds(
+    alloc: Global,
+    apart: Apart,
+    mixed_rounds: u32,
+    edges: Vec<HalfEdge>,
+    work: &mut Work,
+    tally: &mut Tally,
+    outlines: &mut Outlines,
+) -> Result<bool, AllocError>
+    ensures no_more { work.new ≤ work.old }
+{
     let Some(mut boundary) = Boundary::of(alloc, edges)? else {
         return Ok(false);
     };
     for round in 0..GREATEST_ROUNDS {
-        let shrinking = round >= MIXED_ROUNDS;
+        let shrinking = round >= mixed_rounds;
         match cut_round(alloc, apart, shrinking, boundary, work, tally, outlines)? {
             Round::Apart => return Ok(true),
             Round::Cut(left) => boundary = left,

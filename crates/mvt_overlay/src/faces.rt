@@ -4,8 +4,6 @@ ghost use Rattle.std.specs.Prelude.{◌≤◌};
 mod chains;
 pub(crate) mod stop;
 pub(crate) mod sweep;
-#[cfg(test)]
-mod tests;
 
 use crate::faces::stop::{Stop, answered, put, spend_down};
 use crate::faces::sweep::{Notes, sweep};
@@ -14,7 +12,7 @@ use mvt_segments::{Segment, Winding, Work};
 use std::alloc::{AllocError, Global};
 
 /// The number of no segment.
-pub(crate) const NO_SEGMENT: u32 = u32::MAX;
+pub const NO_SEGMENT: u32 = u32::MAX;
 
 /// What is on the sides of a segment that nothing goes round: on both the face outside of all.
 const OUTSIDE: Sides = Sides {
@@ -29,7 +27,7 @@ const OUTSIDE: Sides = Sides {
 /// Of each segment the number of the one directly below it at its first end: of those that begin
 /// there too, the next one clockwise, or else the one that passes directly below that position.
 /// `NO_SEGMENT` where there is none. What is given, and None, are as of `faces_of`.
-pub(crate) fn directly_below(
+pub fn directly_below(
     alloc: Global,
     segments: &[Segment],
     ends: &[u32],

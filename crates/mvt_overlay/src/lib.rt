@@ -11,9 +11,10 @@ mod groups;
 mod lists;
 mod outlines;
 mod roles;
+pub mod sail;
 
-pub use corners::{Apart, add_polygons_apart};
-pub use faces::{Faces, Sides, faces_of};
+pub use corners::{Apart, add_polygons_apart, add_polygons_shrunk};
+pub use faces::{Faces, NO_SEGMENT, Sides, directly_below, faces_of};
 pub use groups::Groups;
 pub use outlines::Outlines;
 pub use roles::{homes_of_strays, polygons_meant};

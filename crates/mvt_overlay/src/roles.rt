@@ -5,8 +5,6 @@ mod around;
 mod cleaned;
 mod nesting;
 mod tested;
-#[cfg(test)]
-mod tests;
 
 use crate::faces::stop::{answered, spend_down};
 use crate::roles::cleaned::drawn_rings;

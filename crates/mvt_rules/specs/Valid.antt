@@ -1,4 +1,4 @@
--- Valid tiles: the profile of the Mapbox Vector Tile Specification 2.1, section 4, that is kept to.
+-- Valid tiles: what is kept of the Mapbox Vector Tile Specification 2.1, section 4, by each profile.
 use Rattle.std.specs.Prelude.{ℕ, List, length}
 use Rattle.mvt_rules.specs.Profiles.{IsInPolygonBy, IsKeptApart}
 use Rattle.mvt_rules.specs.Rules.{TagsBreak, OtherVersion, SameName, IsFeatureOf}
@@ -20,8 +20,8 @@ abbrev pub AreApartBy : Profile → List (List Position) → PolygonRings → Ty
 AreApartBy profile rings polygon_rings = (first second : RingEdge) (point : RationalPoint) → IsKeptApart profile polygon_rings first.ring → IsRingOf polygon_rings second.ring
     → ¬ MeetsWrongly rings first second point
 
--- the rings of one polygon neither cross nor touch, and its holes are inside its exterior and not inside each other (section
--- 4.3.4.4)
+-- the edges of one polygon meet wrongly neither each other nor, by `Feature`, one of an earlier polygon; its holes are inside its
+-- exterior and not inside each other (section 4.3.4.4); and, by `Feature`, none of its vertices is inside another polygon
 pub record IsValidPolygonBy (profile : Profile) (rings : List (List Position)) (polygon_rings : PolygonRings) : Type 0 where
   pub apart : AreApartBy profile rings polygon_rings
   pub enclosed : (ring vertex : ℕ) → ¬ IsOutside rings polygon_rings ring vertex

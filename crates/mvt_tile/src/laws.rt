@@ -9,7 +9,6 @@ ghost use Rattle.mvt_tile.specs.FirstFaults.{AreFirstFaults, IsFaultOfLayer};
 ghost use Rattle.mvt_tile.specs.FreeFaults.{IsLeastOr};
 ghost use Rattle.mvt_tile.specs.RuleFaults.{BreaksAnyRule, IsAfterTags, IsFaultOfFeature, KeepsRules};
 ghost use Rattle.mvt_tile.specs.declared.advice.Advice.{Advice};
-ghost use Rattle.mvt_rules.specs.Rules.{IsFeatureOf};
 ghost use Rattle.mvt_rules.specs.Tile.{FeatureRecord, LayerRecord, TileRecord};
 
 use crate::rules::FeatureRule;

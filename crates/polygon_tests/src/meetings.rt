@@ -7,9 +7,9 @@ mod large;
 
 use crate::rings::{
     Coordinates, FRAME, HOLE_ACROSS, HOLE_BESIDE, HOLE_IN_HOLE, HOLE_OF_FRAME, NOTCHED, SQUARE,
-    rings_at,
+    ring_at, rings_at,
 };
-use mvt_plane::{Count, Point};
+use mvt_plane::{Count, Point, twice_area};
 use mvt_status::{TreeStatus, VecStatus};
 use mvt_sweep::{Meeting, are_proper, find_meeting, find_meeting_with, self_intersection};
 use std::alloc::Global;
@@ -329,9 +329,11 @@ fn two_combs(rt: HostRuntime) {
     let alloc = rt.alloc();
     let ring = combs(&rt, alloc, 158, (80, 20));
     assert!(rt; ring.len() == 316);
+    assert!(rt; twice_area(&ring_at(&rt, alloc, &ring)) == 9520);
     assert!(rt; agree(&rt, alloc, &[&ring], true));
     assert!(rt; is_work_of_combs(&rt, alloc, &ring));
     let crossed = combs(&rt, alloc, 158, (77, 15));
+    assert!(rt; twice_area(&ring_at(&rt, alloc, &crossed)) == 9540);
     assert!(rt; agree(&rt, alloc, &[&crossed], false));
 }
 

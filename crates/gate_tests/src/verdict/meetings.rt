@@ -5,7 +5,7 @@ use crate::device::{CALM, bytes_of};
 use crate::runs::{Engine, run, writes};
 use mvt_confirm::confirm;
 use mvt_fault::{Fault, RingEdge, fault_from_text};
-use mvt_gate::Outcome;
+use mvt_gate::{Outcome, Verdict, judge};
 use std::test::Fail;
 
 /// Tiles in hexadecimal, the vertices of their rings, and how the line of their meeting ends. Edges
@@ -125,7 +125,7 @@ fn is_wrong_meeting(fault: &Fault, rings: &[Vec<Vertex>]) -> bool {
 }
 
 /// Whether the line of `check` reports a wrong meeting of these rings that the checker accepts, and
-/// ends so.
+/// ends so, and `judge` names the same fault.
 fn reports_meeting(
     rt: &HostRuntime,
     tile: &[u8],
@@ -137,7 +137,8 @@ fn reports_meeting(
     let is_ended = line.pop() == Some(b'\n') && line.ends_with(end.as_bytes());
     let fault = fault_from_text(rt.alloc(), &line)?;
     let is_shown = confirm(tile, &fault) && is_wrong_meeting(&fault, rings);
-    Ok(outcome == Ok(Outcome::No) && is_ended && is_shown)
+    let is_judged = judge(rt.alloc(), tile)? == Verdict::No(fault);
+    Ok(outcome == Ok(Outcome::No) && is_ended && is_shown && is_judged)
 }
 
 /// The same of a row of the table.
@@ -195,6 +196,7 @@ fn comb_ring(rt: &HostRuntime) -> Result<Vec<Vertex>, Fail> {
 fn reports_where_combs_meet(rt: HostRuntime) -> Result<(), Fail> {
     let combs = comb_tile(&rt, TOOTH_ABOVE)?;
     assert!(rt; writes(&rt, Engine::Check, &combs, r#"{"ok":true}"#));
+    assert!(rt; judge(rt.alloc(), &combs)? == Verdict::Yes);
     let mut rings = Vec::new(rt.alloc());
     rings.push(comb_ring(&rt)?)?;
     let moved = comb_tile(&rt, MOVED_TOOTH)?;

@@ -2,9 +2,9 @@
 ghost use Rattle.std.specs.Prelude.{◌≤◌};
 
 use crate::boundary::{Boundary, Renumbered, Touch, first_from, is_vertex, links_after, merged};
-use crate::corners::sail::{Corner, Direction, det, sail};
 use crate::corners::wedge::{Wedge, position_at, step_between};
 use crate::lists::mark;
+use crate::sail::{Corner, Direction, det, sail};
 use mvt_plane::{Point, side, sweep_key};
 use mvt_segments::{HalfEdge, Work};
 use std::alloc::{AllocError, Global};

@@ -1,7 +1,7 @@
 //! What is between two edges that follow each other round a position.
 
 use crate::boundary::{Spoke, number_of};
-use crate::corners::sail::{Direction, det};
+use crate::sail::{Direction, det};
 use mvt_plane::{Point, side};
 use mvt_segments::HalfEdge;
 

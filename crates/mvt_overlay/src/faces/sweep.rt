@@ -1,7 +1,6 @@
 //! A line that goes over segments from vertex to vertex, and keeps the ones that it meets in their
 //! order from below to above.
 
-use crate::faces::NO_SEGMENT;
 use crate::faces::chains::{Chains, OUTSIDE};
 use crate::faces::stop::{Stop, numbered, put};
 use mvt_plane::{Point, side, sweep_key};

@@ -103,7 +103,7 @@ abbrev pub IsPath : ℕ → Position → List Position → Type 0
 IsPath least from [] = ⊥
 IsPath least from (first ∷ rest) = IsStep from first × AreSteps first rest × AreApart first rest × (least ≤ length rest) × IsCount (length rest)
 
--- lines or rings, at least one
+-- lines or rings one after another, each from where the one before it ends
 abbrev pub ArePaths : ℕ → Position → List (List Position) → Type 0
 ArePaths least from [] = Unit {0}
 ArePaths least from (part ∷ rest) = IsPath least from part × ArePaths least (cursor from part) rest

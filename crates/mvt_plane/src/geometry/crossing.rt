@@ -1,4 +1,4 @@
-ghost use Rattle.std.specs.Prelude.{◌≡◌, ◌↔◌, ◌≤◌, IsTrue, IfSome, ℤ, pos, ◌<ℤ◌, ◌≤ℤ◌, ◌+ℤ◌, ◌-ℤ◌, ◌*ℤ◌, ◌^◌, nat_abs};
+ghost use Rattle.std.specs.Prelude.{◌≡◌, ◌↔◌, ◌≤◌, IsTrue, IfSome, ℤ, pos, ◌≤ℤ◌, ◌+ℤ◌, ◌*ℤ◌, ◌^◌, nat_abs};
 ghost use Rattle.std.specs.Ordering.{int_cmp};
 ghost use Rattle.mvt_plane.specs.Bound.{IsWithin};
 ghost use Rattle.mvt_plane.specs.Geometry.CommonPoint.{IsNamed, cross_product};
@@ -6,7 +6,7 @@ ghost use Rattle.mvt_plane.specs.Counted.{ticked};
 ghost use Rattle.mvt_plane.specs.Geometry.Measure.{orientation};
 ghost use Rattle.mvt_plane.specs.Calls.Measure.{AreOpposite};
 ghost use Rattle.mvt_plane.specs.Position.{Position, IsCoordinate};
-ghost use Rattle.mvt_plane.specs.Geometry.RationalPoint.{RationalPoint, LiesOn, IsAt, IsBetween, IsBounded, whole};
+ghost use Rattle.mvt_plane.specs.Geometry.RationalPoint.{LiesOn, IsAt, IsBetween, IsBounded, whole};
 
 use crate::count::Count;
 use crate::geometry::edge::{Edge, x_offset, y_offset};

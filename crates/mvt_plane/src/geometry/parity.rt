@@ -30,14 +30,14 @@ pub fn inside(point: Point, ring: &[Point]) -> bool
 fn passes_over(point: Point, a: Point, b: Point) -> bool
     ensures { IsTrue result ↔ PassesOver point (record { a = a; b = b }) }
 {
-    let begins_after = is_after(a, point);
-    let ends_after = is_after(b, point);
-    if begins_after == ends_after {
+    let begins_up_to = is_up_to(a, point);
+    let ends_up_to = is_up_to(b, point);
+    if begins_up_to == ends_up_to {
         return false;
     }
     let of_point = rectangle(a, b, point);
     let of_edge = rectangle(a, point, b);
-    if begins_after {
+    if begins_up_to {
         of_point < of_edge
     } else {
         of_edge < of_point
@@ -46,7 +46,7 @@ fn passes_over(point: Point, a: Point, b: Point) -> bool
 
 /// Whether a vertex has an x that is at most the position's.
 #[inline(always)]
-fn is_after(vertex: Point, point: Point) -> bool
+fn is_up_to(vertex: Point, point: Point) -> bool
     ensures { IsTrue result ↔ (vertex.x ≤ℤ point.x) }
 {
     vertex.x() <= point.x()

@@ -68,6 +68,10 @@ fn pass_below(one: (i32, i32), other: (i32, i32), at: (i32, i32)) -> Option<(boo
 #[test]
 fn areas_are_exact(rt: HostRuntime) {
     assert!(rt; area_of_triangle() == Some(38));
+    assert!(rt; area_of_square(0, 0, 10) == Some(200));
+    assert!(rt; area_of_square(11, 11, 9) == Some(162));
+    assert!(rt; area_of_hole() == Some(-32));
+    assert!(rt; area_of_crossing_rings() == Some((20, 2_147_483_647)));
     assert!(rt; area_of_greatest_square() == Some(9_223_372_036_854_775_808));
     assert!(rt; twice_area(&[]) == 0);
 }
@@ -75,6 +79,46 @@ fn areas_are_exact(rt: HostRuntime) {
 /// The doubled area of an exterior.
 fn area_of_triangle() -> Option<i128> {
     Some(twice_area(&[Point::new(3, 6)?, Point::new(8, 12)?, Point::new(20, 34)?]))
+}
+
+/// The doubled area of an exterior: a square from its least corner.
+fn area_of_square(x: i32, y: i32, side: i32) -> Option<i128> {
+    let (right, top) = (x.checked_add(side)?, y.checked_add(side)?);
+    Some(twice_area(&[
+        Point::new(x, y)?,
+        Point::new(right, y)?,
+        Point::new(right, top)?,
+        Point::new(x, top)?,
+    ]))
+}
+
+/// The doubled area of a hole.
+fn area_of_hole() -> Option<i128> {
+    Some(twice_area(&[
+        Point::new(13, 13)?,
+        Point::new(13, 17)?,
+        Point::new(17, 17)?,
+        Point::new(17, 13)?,
+    ]))
+}
+
+/// The doubled areas of two rings whose edges cross: a small one, and one from end to end of all
+/// coordinates.
+fn area_of_crossing_rings() -> Option<(i128, i128)> {
+    let (least, most) = (-GREATEST, GREATEST - 1);
+    let small = [
+        Point::new(0, 8)?,
+        Point::new(10, 0)?,
+        Point::new(10, 10)?,
+        Point::new(0, 0)?,
+    ];
+    let large = [
+        Point::new(least, most - 1)?,
+        Point::new(most, least)?,
+        Point::new(most, most)?,
+        Point::new(least, least)?,
+    ];
+    Some((twice_area(&small), twice_area(&large)))
 }
 
 /// The doubled area of the greatest square.

@@ -85,8 +85,8 @@ pub fn one_order_of_edges()
         other_w) }
 {}
 
-/// A meeting's two edges are both in its polygon: two meetings whose first edges are in one ring,
-/// or whose second edges are, have one polygon.
+/// A meeting's polygon is that of its second edge, by both profiles. Where each polygon is checked by
+/// itself it is that of the first edge too.
 pub fn one_polygon_of_meeting()
     ensures by_first { (bytes : List ℕ) (layer feature polygon other : ℕ)
         (first second its_first its_second : RingEdge) (x y w its_x its_y its_w : ℤ) →

@@ -3,7 +3,6 @@ ghost use Rattle.std.specs.Prelude.{◌≡◌, ◌+◌, ◌^◌, ◌<◌, ◌≤
 ghost use Rattle.mvt_status.specs.Calls.Tree.{edges_of, fewest, height_of};
 
 use super::{Node, Own, ROOM, Side, append, height, is_filled, join_over, refilled, settle, size};
-use arrayvec::ArrayVec;
 
 /// How many edges stay in a node that is split.
 const HALF: usize = ROOM / 2;

@@ -1,5 +1,5 @@
 //! What a tree answers without a change: the edge at a place, and where its edges split.
-ghost use Rattle.std.specs.Prelude.{◌≡◌, ℕ, ◌+◌, ◌-◌, ◌*◌, ◌/◌, ◌<◌, ◌≤◌, ◌==◌, suc, All, if◌then◌else◌, IfSome, Some, length, slice_get, slice_index};
+ghost use Rattle.std.specs.Prelude.{◌≡◌, ℕ, ◌+◌, ◌-◌, ◌*◌, ◌/◌, ◌<◌, ◌≤◌, suc, All, if◌then◌else◌, IfSome, Some, length, slice_index};
 ghost use Rattle.mvt_plane.specs.Counted.{ticked};
 ghost use Rattle.mvt_status.specs.Counts.{AddsAtMost, bits, raised};
 ghost use Rattle.mvt_status.specs.Split.{AreBeside, IsSplit};

@@ -4,8 +4,7 @@ ghost use Rattle.mvt_plane.specs.Counted.{ticked};
 ghost use Rattle.mvt_status.specs.Counts.{AddsAtMost};
 ghost use Rattle.mvt_status.specs.Calls.Tree.{edges_of, fewest, height_of};
 
-use super::{Node, Own, Side, append, height, is_filled, join_over, lift, settle, size, visit};
-use arrayvec::ArrayVec;
+use super::{Node, Own, Side, height, is_filled, join_over, lift, settle, size, visit};
 use mvt_plane::Count;
 use std::mem::swap;
 

@@ -1,6 +1,6 @@
 //! The first fault of each feature of a layer, by one walk over it, or by a second one where a tag
 //! names a key or a value that the layer doesn't have.
-ghost use Rattle.std.specs.Prelude.{◌≡◌, ◌+◌, ◌++◌, ℕ, List, Some, slice_get, IfOk, OnOk};
+ghost use Rattle.std.specs.Prelude.{◌≡◌, ◌+◌, ◌++◌, List, Some, slice_get, IfOk, OnOk};
 ghost use Rattle.mvt_fault.specs.declared.fault.Fault.{Fault};
 ghost use Rattle.mvt_wire.specs.Embedded.{Holds};
 ghost use Rattle.mvt_rules.specs.Tile.{LayerRecord, IsLayer, TileRecord};

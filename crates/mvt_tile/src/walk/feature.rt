@@ -10,7 +10,7 @@ use super::tags::tags_pass;
 use crate::feature_bytes::FeatureBytes;
 use crate::rules::{FeatureBuffer, TagNeeds};
 use mvt_wire::Part;
-use std::alloc::{AllocError, Global};
+use std::alloc::AllocError;
 
 /// What is required of each feature of a tile beyond its tags. It may require less the more features
 /// it has seen, as that one of them is looked at later.

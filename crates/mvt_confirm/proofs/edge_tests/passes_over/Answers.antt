@@ -57,31 +57,31 @@ negative_turn turn z fits same = subst (λ it. IsTrue (lt_z it (pos 0)) ↔ (z <
 positive_turn : (turn z : ℤ) → FitsSigned w128 turn → turn ≡ z → IsTrue (lt_z (pos 0) (to_z w128 (of_z w128 turn))) ↔ (pos 0 <ℤ z)
 positive_turn turn z fits same = subst (λ it. IsTrue (lt_z (pos 0) it) ↔ (pos 0 <ℤ z)) (sym (to_z-of_z w128 turn fits ∙ same)) (less_decided (pos 0) z)
 
-pub returns-then-begins_after-ends_after : goal.returns-then-begins_after-ends_after
-returns-then-begins_after-ends_after c =
+pub returns-then-begins_up_to-ends_up_to : goal.returns-then-begins_up_to-ends_up_to
+returns-then-begins_up_to-ends_up_to c =
     let begins = read_decided c.x.result c.x-2.result c.args.a.x c.args.position.x (record { sfits = c.x.type_inv }) (record { sfits = c.x-2.type_inv }) c.x.ensures.value c.x-2.ensures.value in
     let ends = read_decided c.x-3.result c.x-4.result c.args.b.x c.args.position.x (record { sfits = c.x-3.type_inv }) (record { sfits = c.x-4.type_inv }) c.x-3.ensures.value c.x-4.ensures.value in
-    let same = c.if-begins_after-ends_after.true in
+    let same = c.if-begins_up_to-ends_up_to.true in
     let there : c.args.a.x ≤ℤ c.args.position.x → c.args.b.x ≤ℤ c.args.position.x = λ less. ends.0 (alike _ _ same (begins.1 less)) in
     let back : c.args.b.x ≤ℤ c.args.position.x → c.args.a.x ≤ℤ c.args.position.x = λ less. begins.0 (alike_back _ _ same (ends.1 less)) in
     (λ impossible. absurd (true≢false (sym impossible)), λ passes. absurd (apart_by_ends c.args.position (record { a = c.args.a; b = c.args.b }) (there, back) passes))
 
-pub returns-then-begins_after : goal.returns-then-begins_after
-returns-then-begins_after c =
+pub returns-then-begins_up_to : goal.returns-then-begins_up_to
+returns-then-begins_up_to c =
     let read = read_decided c.x.result c.x-2.result c.args.a.x c.args.position.x (record { sfits = c.x.type_inv }) (record { sfits = c.x-2.type_inv }) c.x.ensures.value c.x-2.ensures.value in
     let other = read_decided c.x-3.result c.x-4.result c.args.b.x c.args.position.x (record { sfits = c.x-3.type_inv }) (record { sfits = c.x-4.type_inv }) c.x-3.ensures.value c.x-4.ensures.value in
-    let begins : c.args.a.x ≤ℤ c.args.position.x = read.0 c.if-begins_after.true in
-    let ends : c.args.position.x <ℤ c.args.b.x = above c.args.b.x c.args.position.x (λ less. differ _ _ c.if-begins_after-ends_after.false c.if-begins_after.true (other.1 less)) in
+    let begins : c.args.a.x ≤ℤ c.args.position.x = read.0 c.if-begins_up_to.true in
+    let ends : c.args.position.x <ℤ c.args.b.x = above c.args.b.x c.args.position.x (λ less. differ _ _ c.if-begins_up_to-ends_up_to.false c.if-begins_up_to.true (other.1 less)) in
     let passes = rightward_by_orientation c.args.position (record { a = c.args.a; b = c.args.b }) begins ends in
     let sign = negative_turn c.orient-turn.result _ (record { sfits = c.orient-turn.type_inv }) c.orient-turn.ensures in
     (λ less. passes.0 (sign.0 less), λ over. sign.1 (passes.1 over))
 
-pub returns-else-begins_after : goal.returns-else-begins_after
-returns-else-begins_after c =
+pub returns-else-begins_up_to : goal.returns-else-begins_up_to
+returns-else-begins_up_to c =
     let read = read_decided c.x.result c.x-2.result c.args.a.x c.args.position.x (record { sfits = c.x.type_inv }) (record { sfits = c.x-2.type_inv }) c.x.ensures.value c.x-2.ensures.value in
     let other = read_decided c.x-3.result c.x-4.result c.args.b.x c.args.position.x (record { sfits = c.x-3.type_inv }) (record { sfits = c.x-4.type_inv }) c.x-3.ensures.value c.x-4.ensures.value in
-    let begins : c.args.position.x <ℤ c.args.a.x = above c.args.a.x c.args.position.x (λ less. true≢false (sym (read.1 less) ∙ c.if-begins_after.false)) in
-    let ends : c.args.b.x ≤ℤ c.args.position.x = other.0 (differ_back _ _ c.if-begins_after-ends_after.false c.if-begins_after.false) in
+    let begins : c.args.position.x <ℤ c.args.a.x = above c.args.a.x c.args.position.x (λ less. true≢false (sym (read.1 less) ∙ c.if-begins_up_to.false)) in
+    let ends : c.args.b.x ≤ℤ c.args.position.x = other.0 (differ_back _ _ c.if-begins_up_to-ends_up_to.false c.if-begins_up_to.false) in
     let passes = leftward_by_orientation c.args.position (record { a = c.args.a; b = c.args.b }) ends begins in
     let sign = positive_turn c.orient-turn.result _ (record { sfits = c.orient-turn.type_inv }) c.orient-turn.ensures in
     (λ more. passes.0 (sign.0 more), λ over. sign.1 (passes.1 over))

@@ -1,6 +1,6 @@
 //! The laws of rational points on edges (section 4.3.4.4).
 
-ghost use Rattle.std.specs.Prelude.{◌≡◌, ◌↔◌, ◌⊎◌, ℤ, pos, ◌*ℤ◌, ◌≤ℤ◌, Option, Some, None};
+ghost use Rattle.std.specs.Prelude.{◌≡◌, ◌↔◌, ℤ, pos, ◌*ℤ◌, ◌≤ℤ◌, Option, Some, None};
 ghost use Rattle.mvt_plane.specs.Geometry.CommonPoint.{IsCommon, IsNamed};
 ghost use Rattle.mvt_plane.specs.Position.{Position, IsPosition};
 ghost use Rattle.mvt_plane.specs.Geometry.RationalPoint.{RationalPoint, LiesOn, IsAt, IsBounded, whole};

@@ -27,25 +27,25 @@ beyond p x y following fails = elim (le_or_lt x y) [
   | inr more ↦ more
 ]
 
-pub returns-then-begins_after-ends_after : goal.returns-then-begins_after-ends_after
-returns-then-begins_after-ends_after c =
-    let same = same_truth c.is_after-begins_after.result c.is_after-ends_after.result c.if-begins_after-ends_after.true in
-    let there : c.args.a.x ≤ℤ c.args.point.x → c.args.b.x ≤ℤ c.args.point.x = λ begins. c.is_after-ends_after.ensures.0 (sym same ∙ c.is_after-begins_after.ensures.1 begins) in
-    let back : c.args.b.x ≤ℤ c.args.point.x → c.args.a.x ≤ℤ c.args.point.x = λ ends. c.is_after-begins_after.ensures.0 (same ∙ c.is_after-ends_after.ensures.1 ends) in
+pub returns-then-begins_up_to-ends_up_to : goal.returns-then-begins_up_to-ends_up_to
+returns-then-begins_up_to-ends_up_to c =
+    let same = same_truth c.is_up_to-begins_up_to.result c.is_up_to-ends_up_to.result c.if-begins_up_to-ends_up_to.true in
+    let there : c.args.a.x ≤ℤ c.args.point.x → c.args.b.x ≤ℤ c.args.point.x = λ begins. c.is_up_to-ends_up_to.ensures.0 (sym same ∙ c.is_up_to-begins_up_to.ensures.1 begins) in
+    let back : c.args.b.x ≤ℤ c.args.point.x → c.args.a.x ≤ℤ c.args.point.x = λ ends. c.is_up_to-begins_up_to.ensures.0 (same ∙ c.is_up_to-ends_up_to.ensures.1 ends) in
     (λ impossible. absurd (cc impossible), λ passes. absurd (passes_apart c.args.point c.args.a c.args.b (there, back) passes))
 
-pub returns-then-begins_after : goal.returns-then-begins_after
-returns-then-begins_after c =
-    let begins = c.is_after-begins_after.ensures.0 c.if-begins_after.true in
-    let fails = one_fails c.is_after-begins_after.result c.is_after-ends_after.result c.if-begins_after-ends_after.false c.if-begins_after.true in
-    let ends = beyond c.is_after-ends_after.result c.args.b.x c.args.point.x c.is_after-ends_after.ensures fails in
+pub returns-then-begins_up_to : goal.returns-then-begins_up_to
+returns-then-begins_up_to c =
+    let begins = c.is_up_to-begins_up_to.ensures.0 c.if-begins_up_to.true in
+    let fails = one_fails c.is_up_to-begins_up_to.result c.is_up_to-ends_up_to.result c.if-begins_up_to-ends_up_to.false c.if-begins_up_to.true in
+    let ends = beyond c.is_up_to-ends_up_to.result c.args.b.x c.args.point.x c.is_up_to-ends_up_to.ensures fails in
     let passes = passes_rightward c.args.point c.args.a c.args.b begins ends in
     (λ less. passes.0 (grind (arith, ints)), λ over. let less = passes.1 over in grind (arith, ints))
 
-pub returns-else-begins_after : goal.returns-else-begins_after
-returns-else-begins_after c =
-    let begins = beyond c.is_after-begins_after.result c.args.a.x c.args.point.x c.is_after-begins_after.ensures c.if-begins_after.false in
-    let holds = one_holds c.is_after-begins_after.result c.is_after-ends_after.result c.if-begins_after-ends_after.false c.if-begins_after.false in
-    let ends = c.is_after-ends_after.ensures.0 holds in
+pub returns-else-begins_up_to : goal.returns-else-begins_up_to
+returns-else-begins_up_to c =
+    let begins = beyond c.is_up_to-begins_up_to.result c.args.a.x c.args.point.x c.is_up_to-begins_up_to.ensures c.if-begins_up_to.false in
+    let holds = one_holds c.is_up_to-begins_up_to.result c.is_up_to-ends_up_to.result c.if-begins_up_to-ends_up_to.false c.if-begins_up_to.false in
+    let ends = c.is_up_to-ends_up_to.ensures.0 holds in
     let passes = passes_leftward c.args.point c.args.a c.args.b ends begins in
     (λ less. passes.0 (grind (arith, ints)), λ over. let less = passes.1 over in grind (arith, ints))

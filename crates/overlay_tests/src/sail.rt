@@ -1,6 +1,6 @@
 //! Sails against what is in each cone, tried position by position.
 
-use super::{Corner, Direction, det, sail};
+use mvt_overlay::sail::{Corner, Direction, det, sail};
 use std::alloc::Global;
 use std::process::Abort;
 

@@ -1,4 +1,6 @@
-use super::{homes_of_strays, polygons_meant};
+//! Which rings are meant as exteriors, and whose holes the others are.
+
+use mvt_overlay::{homes_of_strays, polygons_meant};
 use mvt_plane::Point;
 use mvt_segments::Work;
 use std::alloc::Global;

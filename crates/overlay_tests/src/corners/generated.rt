@@ -1,7 +1,7 @@
 //! Cells of a grid filled at random: whatever touches there, what is left of it is apart.
 
 use super::{polygons_apart, polygons_shrunk};
-use crate::corners::Apart;
+use mvt_overlay::Apart;
 use mvt_plane::{Count, Edge, Point, common, sweep_key};
 use mvt_segments::{HalfEdge, Keyed};
 use std::alloc::Global;

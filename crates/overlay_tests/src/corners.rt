@@ -2,9 +2,7 @@
 
 mod generated;
 
-use super::{Apart, add_polygons_apart, cuts_of};
-use crate::boundary::{Boundary, add_outlines, trace};
-use crate::outlines::Outlines;
+use mvt_overlay::{Apart, Outlines, add_polygons_apart, add_polygons_shrunk};
 use mvt_plane::{Point, twice_area};
 use mvt_segments::{HalfEdge, Keyed, Tally, Work};
 use std::alloc::Global;
@@ -362,27 +360,14 @@ fn polygons_shrunk(
     edges: Vec<HalfEdge>,
 ) -> (Vec<Vec<Vec<Point>>>, u64) {
     let mut work = Work::new(100_000);
-    let mut count: u64 = 0;
-    let begun = Boundary::of(alloc, edges).expect(rt, "memory");
-    let mut boundary = begun.expect(rt, "links");
-    for _ in 0..100 {
-        let traced = trace(alloc, &boundary.edges, &boundary.links, &mut work)
-            .expect(rt, "memory")
-            .expect(rt, "rings");
-        let cuts = cuts_of(alloc, apart, true, &boundary, &traced, &mut work)
-            .expect(rt, "memory")
-            .expect(rt, "work");
-        if cuts.count == 0 {
-            let mut outlines = no_outlines(alloc);
-            add_outlines(alloc, &traced, &mut outlines).expect(rt, "memory");
-            return (polygons_of(rt, alloc, outlines), count);
-        }
-        count = count.wrapping_add(cuts.count);
-        let left = cuts.applied(alloc, boundary).expect(rt, "memory");
-        boundary = left.expect(rt, "links");
-    }
-    assert!(rt; false, "it has no end");
-    (Vec::new(alloc), count)
+    let mut tally = Tally {
+        crossings: 0,
+        cuts: 0,
+    };
+    let mut outlines = no_outlines(alloc);
+    let done = add_polygons_shrunk(alloc, apart, edges, &mut work, &mut tally, &mut outlines);
+    assert!(rt; done.expect(rt, "memory"));
+    (polygons_of(rt, alloc, outlines), tally.cuts)
 }
 
 /// The lakes of two lakes that touch in one: below the position where they do, a strip of land of

@@ -9,17 +9,17 @@ use std::alloc::{AllocError, Global};
 
 /// A step of the grid, from -2^31 to 2^31 along each axis.
 #[derive(Clone, Copy, PartialEq, Eq)]
-pub(crate) struct Direction {
-    pub(crate) x: i64,
-    pub(crate) y: i64,
+pub struct Direction {
+    pub x: i64,
+    pub y: i64,
 }
 
 /// A corner of a sail.
 #[derive(Clone, Copy)]
-pub(crate) struct Corner {
-    pub(crate) at: Direction,
+pub struct Corner {
+    pub at: Direction,
     /// How many steps of the grid it is from the corner before; 0 at the first one.
-    pub(crate) steps: i64,
+    pub steps: i64,
 }
 
 /// The greatest distance along an axis.
@@ -46,7 +46,7 @@ impl Direction {
 
     /// The shortest step of the grid in this direction, and how many of them it is. None where it
     /// has no length.
-    pub(crate) fn primitive(self) -> Option<(Direction, i64)> {
+    pub fn primitive(self) -> Option<(Direction, i64)> {
         let divisor = euclid(self.x, self.y)?.divisor;
         let x = self.x.checked_div(divisor)?;
         let y = self.y.checked_div(divisor)?;
@@ -62,7 +62,7 @@ impl Direction {
     }
 
     /// From another one to this one.
-    pub(crate) fn minus(self, other: Direction) -> Direction {
+    pub fn minus(self, other: Direction) -> Direction {
         Direction {
             x: self.x.wrapping_sub(other.x),
             y: self.y.wrapping_sub(other.y),
@@ -77,7 +77,7 @@ impl Direction {
 
 /// Twice the area of the triangle of the tip and the ends of two directions: positive where the
 /// second one is less than half a turn counterclockwise from the first one.
-pub(crate) fn det(one: Direction, other: Direction) -> i128 {
+pub fn det(one: Direction, other: Direction) -> i128 {
     let right = i128::from(one.x).wrapping_mul(i128::from(other.y));
     let left = i128::from(one.y).wrapping_mul(i128::from(other.x));
     right.wrapping_sub(left)
@@ -153,7 +153,7 @@ fn less(one: i64, count: i64, other: i64) -> i64 {
 /// With u0 = `right` each next position of the sail is c·u1 - u0, where c is the least number that
 /// leaves it in the cone. Where c is 2 the sail goes straight on, so all such steps are taken at
 /// once: it takes the time of one of Euclid's algorithms.
-pub(crate) fn sail(
+pub fn sail(
     alloc: Global,
     right: Direction,
     left: Direction,
@@ -282,6 +282,3 @@ fn floor_div(number: i128, divisor: i128) -> Option<i128> {
         Some(quotient)
     }
 }
-
-#[cfg(test)]
-mod tests;

@@ -1,4 +1,6 @@
-use super::{NO_SEGMENT, directly_below, faces_of};
+//! What is below segments, and between them.
+
+use mvt_overlay::{NO_SEGMENT, directly_below, faces_of};
 use mvt_plane::{Point, orient, sweep_key};
 use mvt_segments::{Segment, Winding, Work, ends_of};
 use std::alloc::Global;
