@@ -44,6 +44,7 @@ test_pages() {
     expect "the statuses of mvtgate-check.1" statuses_of_check
     expect "the functions of mvtgate.3" "$python" packaging/tests/manual.py functions
     expect "the constants of mvtgate.3" "$python" packaging/tests/manual.py constants
+    expect "the members of mvtgate-planet.1" "$python" packaging/tests/manual.py members
 }
 
 # offered_by PROGRAM WORD..: what the function of the program's completion offers for the words, of which the last one is at

@@ -1,11 +1,12 @@
 """Holds the manual pages against what they are about: manual.py faults | statuses PROGRAM | lines PROGRAM | diagnostics PROGRAM |
-functions | constants | example.
+functions | constants | members | example.
 
 - faults: the codes and titles of mvtgate.1 are those of bindings/faults.json (and tests/rule compares the keys)
 - statuses: mvtgate.1 has the exit statuses, and the words of each, that the program's help has
 - lines: of each command mvtgate.1 has the keys that the program writes, and the objects of advice
 - diagnostics: the program ends with each line that mvtgate.1 has, and with its status
 - functions, constants: mvtgate.3 has those of mvtgate.h
+- members: mvtgate-planet.1 has those of a line of faults.jsonl that docs/PLANET.md has
 - example: writes the first example program of mvtgate.3
 
 The exit status is 1 where something differs, which is printed.
@@ -155,6 +156,17 @@ def constants() -> None:
     differ([defined["MVTGATE_TEXT_ROOM"]], re.findall(r"\.Dv MVTGATE_TEXT_ROOM ,\n(\d+) bytes", source(3)))
 
 
+def members() -> None:
+    document = (TOP / "docs/PLANET.md").read_text()
+    table = document.split("A line of `faults.jsonl` has:\n\n")[1].split("\n\n")[0]
+    wanted = [name for row in table.splitlines() for name in re.findall(r"`(\w+)`", row.split(" | ")[0])]
+    # (those of --all are told of elsewhere)
+    for of_all in re.findall(r"two more members: `(\w+)`.* and `(\w+)`", document):
+        wanted[-1:-1] = of_all
+    section = (PAGES / "mvtgate-planet.1").read_text().split("has these members:\n")[1].split("\n.El\n")[0]
+    differ(wanted, [name for line in re.findall(r"^\.It Li (.*)$", section, re.MULTILINE) for name in line.split(" , ")])
+
+
 def example() -> None:
     found = re.search(r"^\.Bd -literal -offset indent\n(#include.*?)^\.Ed$", source(3), re.MULTILINE | re.DOTALL)
     assert found
@@ -163,7 +175,7 @@ def example() -> None:
 
 def main() -> None:
     name, *words = sys.argv[1:]
-    calls = {"faults": faults, "functions": functions, "constants": constants, "example": example}
+    calls = {"faults": faults, "functions": functions, "constants": constants, "members": members, "example": example}
     of_program = {"statuses": statuses, "lines": lines, "diagnostics": diagnostics}
     if name in of_program:
         of_program[name](*words)
