@@ -161,7 +161,7 @@ def members() -> None:
     table = document.split("A line of `faults.jsonl` has:\n\n")[1].split("\n\n")[0]
     wanted = [name for row in table.splitlines() for name in re.findall(r"`(\w+)`", row.split(" | ")[0])]
     # (those of --all are told of elsewhere)
-    for of_all in re.findall(r"two more members: `(\w+)`.* and `(\w+)`", document):
+    for of_all in re.findall(r"`(\w+)`, from 0 for [^`]*, and `(\w+)`, how many the tile has", document):
         wanted[-1:-1] = of_all
     section = (PAGES / "mvtgate-planet.1").read_text().split("has these members:\n")[1].split("\n.El\n")[0]
     differ(wanted, [name for line in re.findall(r"^\.It Li (.*)$", section, re.MULTILINE) for name in line.split(" , ")])
