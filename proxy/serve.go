@@ -103,8 +103,8 @@ func (it *server) gauges(listener *bounds.Listener) {
 // serve serves until the context ends, and then what is under way.
 func serve(end context.Context, it *settings) error {
 	if os.Getenv("GOMEMLIMIT") == "" {
-		// (tiles take no more of Go's heap; so it is tidied before it is far above)
-		debug.SetMemoryLimit(int64(it.memory))
+		// (so it is tidied before it is far above; a lower limit would have it tidied all the time)
+		debug.SetMemoryLimit(it.heap())
 	}
 	made := newServer(it)
 	inner, err := net.Listen("tcp", it.listen)

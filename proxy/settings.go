@@ -195,6 +195,9 @@ func (it *settings) leastMemory() int64 {
 	return most + lengthsOfTile*longest
 }
 
+// heap is how many bytes Go's heap may take: tiles that are under way, and what is kept.
+func (it *settings) heap() int64 { return int64(it.memory) + int64(it.lastGood) + int64(it.remember) }
+
 // healthURL is what /healthz asks for: the path below the upstream server's URL.
 func (it *settings) healthURL() *url.URL {
 	path, _ := url.ParseRequestURI(it.healthPath)

@@ -6,6 +6,13 @@ import (
 	"testing"
 )
 
+func TestTheHeapHasRoomForWhatIsKept(t *testing.T) {
+	it, err := read(strings.Fields("--upstream http://a --memory 4G --last-good 8G --remember 32M"), io.Discard)
+	if err != nil || it.heap() != 12<<30+32<<20 {
+		t.Error(it.heap(), err)
+	}
+}
+
 func TestMemoryHasRoomForTheLongestTile(t *testing.T) {
 	for words, isEnough := range map[string]bool{
 		"--max-tile 1M --memory 40M":                                  true,

@@ -1,8 +1,9 @@
 /* mvtgate: judges Mapbox vector tiles in the process (Mapbox Vector Tile Specification 2.1). For C and C++.
  *
  * A tile is its uncompressed bytes, of any content and any length: gunzip it first. A text is bytes of UTF-8 without a zero
- * byte after it. (Of a feature of 2^32 vertices or more, so of a tile above 8.5 GB, MVTGATE_NO_MEMORY is answered.) What the
- * functions do is proved, as far as the caller keeps to these rules, which nothing checks:
+ * byte after it. (Of a polygon, by FEATURE of a feature, of 2^32 vertices or more, so of a tile above 8.5 GB,
+ * MVTGATE_NO_MEMORY is answered.) What the functions do is proved, as far as the caller keeps to these rules, which nothing
+ * checks:
  *
  *  - No pointer is null, also where its length is 0: give the address of any byte.
  *  - Each pointer to bytes has as many as its length says, and each length is below 2^63.

@@ -63,7 +63,7 @@ func listed(call judge, tile []byte, profile Profile) ([]*Fault, error) {
 		line, rest, _ := bytes.Cut(text, []byte{'\n'})
 		fault, err := readFault(line)
 		if err != nil {
-			return nil, &VersionError{Said: string(line)}
+			return nil, err
 		}
 		list = append(list, fault)
 		text = rest

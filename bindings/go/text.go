@@ -150,44 +150,50 @@ func (it *Fault) UnmarshalJSON(text []byte) error {
 	return err
 }
 
-// ParseFault is the fault of a text, such as a line of `mvtgate check` that was kept. Spaces and the order of the keys don't matter.
-// The error is [ErrNotJSON] or [ErrNotAFault].
+// ParseFault is the fault of a text, such as a line of `mvtgate check` that was kept. Spaces, the order of the keys and the spelling of
+// strings don't matter, and of equal keys the last one counts: the library reads it first, as [ConfirmText] has it read. The error is
+// [ErrNotJSON], [ErrNotAFault] or [ErrFaultRange], or [ErrOutOfMemory].
 func ParseFault(text []byte) (*Fault, error) {
-	if !json.Valid(text) {
-		return nil, ErrNotJSON
+	if fault := readSpelled(text); fault != nil {
+		return fault, nil
 	}
-	fault, err := readFault(text)
-	if err != nil {
-		return nil, ErrNotAFault
+	if _, err := confirmed(nil, text, ProfilePolygon); err != nil {
+		return nil, err
 	}
-	return fault, nil
+	return readFault(text)
 }
 
+// readFault is the fault of a text that the library takes for one, or wrote itself.
 func readFault(text []byte) (*Fault, error) {
 	if fault := readSpelled(text); fault != nil {
 		return fault, nil
 	}
 	var found map[string]json.RawMessage
-	if err := json.Unmarshal(text, &found); err != nil {
-		return nil, err
-	}
 	fault := new(Fault)
-	if !(&member{"code", &fault.Code}).read(found["code"]) {
-		return nil, ErrNotAFault
+	if json.Unmarshal(text, &found) == nil && fault.readMembers(found) {
+		return fault, nil
 	}
-	if fault.hasScope() && !(&member{"scope", &fault.Scope}).read(found["scope"]) {
-		return nil, ErrNotAFault
+	return nil, &VersionError{Said: string(text)}
+}
+
+// readMembers takes all members of a fault, and says whether they are those of one.
+func (it *Fault) readMembers(found map[string]json.RawMessage) bool {
+	if !(&member{"code", &it.Code}).read(found["code"]) {
+		return false
 	}
-	members := fault.members()
+	if it.hasScope() && !(&member{"scope", &it.Scope}).read(found["scope"]) {
+		return false
+	}
+	members := it.members()
 	if members == nil || len(members) != len(found) {
-		return nil, ErrNotAFault
+		return false
 	}
 	for at := range members {
 		if !members[at].read(found[members[at].key]) {
-			return nil, ErrNotAFault
+			return false
 		}
 	}
-	return fault, nil
+	return true
 }
 
 // read takes the member's value out of its JSON text, and says whether it is one that a fault may have.
@@ -236,7 +242,7 @@ func isWideNumber(digits string) bool {
 func faultOfLibrary(text []byte) error {
 	fault, err := readFault(text)
 	if err != nil {
-		return &VersionError{Said: string(text)}
+		return err
 	}
 	return fault
 }

@@ -30,8 +30,10 @@ func TestOnlyTheTextOfAFaultIsRead(t *testing.T) {
 		`{"code":65737,"layer":0}`,
 		`{"code":305,"feature":0,"index":0,"layer":0}`,
 		`{"at":0,"code":112,"field":0,"scope":"tile"}`,
-		`{"at":0,"code":101,"field":4294967296,"scope":"tile"}`,
 		`{"at":0,"code":101,"field":0,"layer":0,"scope":"tile"}`,
+		`{"at":0,"code":101,"field":18446744073709551616,"scope":"tile"}`,
+		`{"code":201,"layer":-0}`,
+		`{"code":201,"layer":3,"layer":null}`,
 		`{"at":0,"code":101,"field":0,"scope":"layer"}`,
 		`{"at":0,"code":101,"field":0,"scope":7}`,
 		`{"at":0,"code":101,"feature":0,"field":0,"layer":0,"scope":"value","value":0}`,
@@ -43,16 +45,56 @@ func TestOnlyTheTextOfAFaultIsRead(t *testing.T) {
 		`{"code":504,"feature":0,"first":{"edge":0,"ring":0},"layer":0,"polygon":0,"second":{"edge":2,"ring":0},"w":"1","x":"08","y":"8"}`,
 		`{"code":504,"feature":0,"first":{"edge":0,"ring":0},"layer":0,"polygon":0,"second":{"edge":2,"ring":0},"w":"1","x":"-0","y":"8"}`,
 		`{"code":504,"feature":0,"first":{"edge":0,"ring":0},"layer":0,"polygon":0,"second":{"edge":2,"ring":0},"w":"1","x":"+8","y":"8"}`,
-		`{"code":504,"feature":0,"first":{"edge":0,"ring":0},"layer":0,"polygon":0,"second":{"edge":2,"ring":0},"w":"1","x":"170141183460469231731687303715884105728","y":"8"}`,
 	} {
-		if fault, err := mvtgate.ParseFault([]byte(text)); !errors.Is(err, mvtgate.ErrNotAFault) {
-			t.Errorf("%s: %v, %v", text, fault, err)
+		expectRefused(t, text, mvtgate.ErrNotAFault)
+	}
+}
+
+// expectRefused expects the error of a text that is read, and of one that is to be confirmed.
+func expectRefused(t *testing.T, text string, wanted error) {
+	t.Helper()
+	if fault, err := mvtgate.ParseFault([]byte(text)); !errors.Is(err, wanted) {
+		t.Errorf("%s is read: %v, %v", text, fault, err)
+	}
+	if isTrue, err := mvtgate.ConfirmText(nil, []byte(text), mvtgate.ProfilePolygon); !errors.Is(err, wanted) {
+		t.Errorf("%s is confirmed: %v, %v", text, isTrue, err)
+	}
+}
+
+func TestWhatIsNoJSONIsTold(t *testing.T) {
+	for _, text := range []string{
+		"", "{", `{"code":201,"layer":00}`, `{"code":201,"layer":0}x`, "\ufeff{}", "\"\xff\"", `"\ud800"`,
+		strings.Repeat("[", 200) + strings.Repeat("]", 200),
+		`{"code":201,"layer":1e999,"layer":0}`,
+	} {
+		expectRefused(t, text, mvtgate.ErrNotJSON)
+	}
+}
+
+func TestANumberThatIsOutOfRangeIsTold(t *testing.T) {
+	meeting := `{"code":504,"feature":0,"first":{"edge":0,"ring":0},"layer":0,"polygon":0,"second":{"edge":2,"ring":0},"w":"1","x":"X","y":"8"}`
+	expectRefused(t, `{"at":0,"code":101,"field":4294967296,"scope":"tile"}`, mvtgate.ErrFaultRange)
+	for _, x := range []string{"170141183460469231731687303715884105728", "-170141183460469231731687303715884105729", "1" + strings.Repeat("0", 80)} {
+		expectRefused(t, strings.Replace(meeting, "X", x, 1), mvtgate.ErrFaultRange)
+	}
+}
+
+// (RFC 8259 leaves open which of equal keys counts; it is the last one, as for the program.)
+func TestTheLastOfEqualKeysCounts(t *testing.T) {
+	deep := strings.Repeat("[", 100) + strings.Repeat("]", 100)
+	for text, wanted := range map[string]mvtgate.Fault{
+		`{"code":200,"layer":9,"code":201,"layer":3}`:                       {Code: 201, Layer: 3},
+		`{"\u0063ode":201,"l\u0061yer":3}`:                                  {Code: 201, Layer: 3},
+		`{"layer":` + deep + `,"code":201,"layer":3}`:                       {Code: 201, Layer: 3},
+		`{"scope":"layer","at":1,"code":105,"field":2,"scope":"t\u0069le"}`: {Code: 105, Scope: mvtgate.ScopeTile, At: 1, Field: 2},
+	} {
+		if fault := parse(t, text); *fault != wanted {
+			t.Errorf("%s: %v", text, fault.Text())
 		}
 	}
-	for _, text := range []string{"", "{", `{"code":201,"layer":00}`, `{"code":201,"layer":0}x`} {
-		if _, err := mvtgate.ParseFault([]byte(text)); !errors.Is(err, mvtgate.ErrNotJSON) {
-			t.Errorf("%s: %v", text, err)
-		}
+	text := `{"code":504,"feature":0,"first":7,"first":{"edge":0,"ring":2,"edge":1},"layer":0,"polygon":0,"second":{"edge":2,"ring":0},"w":"1","x":"8","y":"8"}`
+	if fault := parse(t, text); fault.FirstEdge != (mvtgate.RingEdge{Ring: 2, Edge: 1}) {
+		t.Error(fault.Text())
 	}
 }
 

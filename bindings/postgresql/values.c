@@ -7,7 +7,6 @@
 #include "mb/pg_wchar.h"
 #include "utils/builtins.h"
 #include "utils/guc.h"
-#include "utils/numeric.h"
 
 #include "explain.h"
 
@@ -100,46 +99,14 @@ void refuse_no_fault(void)
     ereport(ERROR, (errcode(ERRCODE_INVALID_PARAMETER_VALUE), errmsg(SQL_NO_FAULT)));
 }
 
-/* Adds a member that is a number or a string. Its name is that of the object it is in, with a full stop, and its own. */
-static bool add_member(Members *members, const char *name, JsonbValue *value)
-{
-    char *text = value->type == jbvNumeric
-                     ? DatumGetCString(DirectFunctionCall1(numeric_out, NumericGetDatum(value->val.numeric)))
-                 : value->type == jbvString ? pnstrdup(value->val.string.val, value->val.string.len)
-                                            : NULL;
-    return text && members_add(members, name, strlen(name), text, strlen(text));
-}
-
-/* The members of an object, and those of the objects in it. */
-static bool read_members(Jsonb *fault, Members *members)
-{
-    JsonbIterator *it = JsonbIteratorInit(&fault->root);
-    JsonbValue value;
-    JsonbIteratorToken token;
-    char *outer = NULL, *name = NULL;
-    members->count = 0;
-    while ((token = JsonbIteratorNext(&it, &value, false)) != WJB_DONE) {
-        if (token == WJB_KEY) {
-            char *its = pnstrdup(value.val.string.val, value.val.string.len);
-            name = outer ? psprintf("%s.%s", outer, its) : its;
-        } else if (token == WJB_BEGIN_OBJECT)
-            outer = name;
-        else if (token == WJB_END_OBJECT)
-            outer = NULL;
-        else if (token != WJB_VALUE || !name || !add_member(members, name, &value))
-            return false;
-    }
-    return true;
-}
-
 Datum explanation_of(Jsonb *fault)
 {
-    Members members;
     Explanation *it = palloc(sizeof *it);
-    int status = sql_is_fault(text_of_jsonb(fault));
+    Bytes text = text_of_jsonb(fault);
+    int status = sql_is_fault(text);
     if (status == MVTGATE_NO_MEMORY)
         expect_status(status, MVTGATE_NOT_CONFIRMED, MVTGATE_NOT_CONFIRMED);
-    if (status != MVTGATE_NOT_CONFIRMED || !read_members(fault, &members) || !explain(&members, it))
+    if (status != MVTGATE_NOT_CONFIRMED || !explain(text, it))
         refuse_no_fault();
     return PointerGetDatum(cstring_to_text_with_len(it->text, (int)it->length));
 }

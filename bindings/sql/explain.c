@@ -3,36 +3,16 @@
 #include <stdlib.h>
 #include <string.h>
 
+#include "member.h"
 #include "words.h"
 
 __extension__ typedef unsigned __int128 Wide;
 
-int members_add(Members *members, const char *name, size_t name_length, const char *text, size_t text_length)
-{
-    if (members->count == sizeof members->all / sizeof *members->all)
-        return 0;
-    Member *it = &members->all[members->count];
-    if (name_length >= sizeof it->name || text_length >= sizeof it->text)
-        return 0;
-    memcpy(it->name, name, name_length);
-    it->name[name_length] = 0;
-    memcpy(it->text, text, text_length);
-    it->text[text_length] = 0;
-    for (size_t at = 0; at < members->count; ++at)
-        if (strcmp(members->all[at].name, it->name) == 0)
-            return 0;
-    ++members->count;
-    return 1;
-}
-
-/* The text of a member, or NULL. */
-static const char *member(const Members *members, const char *name, size_t length)
-{
-    for (size_t at = 0; at < members->count; ++at)
-        if (strncmp(members->all[at].name, name, length) == 0 && members->all[at].name[length] == 0)
-            return members->all[at].text;
-    return NULL;
-}
+/* What places are filled from: the members of a fault, or a field's number and its name. */
+typedef struct {
+    Bytes fault;
+    const char *number, *name;
+} Places;
 
 static int append(Explanation *out, const char *text, size_t length)
 {
@@ -83,8 +63,6 @@ static Wide common_divisor(Wide greater, Wide lesser)
 /* The exact quotient: a whole number, or a fraction in lowest terms. By 0, which no fault of a tile has, it is left as it is. */
 static int append_quotient(Explanation *out, const char *number, const char *by)
 {
-    if (!number || !by)
-        return 0;
     Wide above = magnitude(number), below = magnitude(by);
     if (!below)
         return append_text(out, number) && append_text(out, "/0");
@@ -98,50 +76,57 @@ static int append_quotient(Explanation *out, const char *number, const char *by)
 
 /* Texts with places */
 
-static int fill(const char *text, const Members *members, Explanation *out);
+static int fill(const char *text, const Places *places, Explanation *out);
 
-static int fill_scope(const Members *members, Explanation *out)
+static int fill_scope(const Places *places, Explanation *out)
 {
-    const char *scope = member(members, "scope", 5);
-    for (const ScopeWords *it = all_scope_words; scope && it->scope; ++it)
-        if (strcmp(it->scope, scope) == 0)
-            return fill(it->words, members, out);
+    MemberText scope;
+    if (!read_member(places->fault, "scope", 5, &scope))
+        return 0;
+    for (const ScopeWords *it = all_scope_words; it->scope; ++it)
+        if (strcmp(it->scope, scope.text) == 0)
+            return fill(it->words, places, out);
     return 0;
 }
 
-static int fill_field(const Members *members, Explanation *out)
+static int fill_field(const Places *places, Explanation *out)
 {
-    const char *scope = member(members, "scope", 5), *number = member(members, "field", 5);
-    if (!scope || !number)
+    MemberText scope, number;
+    if (!read_member(places->fault, "scope", 5, &scope) || !read_member(places->fault, "field", 5, &number))
         return 0;
-    if (strcmp(number, "0") == 0)
+    if (strcmp(number.text, "0") == 0)
         return append_text(out, key_field_words);
-    Members its = {.count = 0};
-    if (!members_add(&its, "number", 6, number, strlen(number)))
-        return 0;
     for (const FieldName *it = all_field_names; it->scope; ++it)
-        if (strcmp(it->scope, scope) == 0 && strcmp(it->number, number) == 0)
-            return members_add(&its, "name", 4, it->name, strlen(it->name)) && fill(known_field_words, &its, out);
-    return fill(unknown_field_words, &its, out);
+        if (strcmp(it->scope, scope.text) == 0 && strcmp(it->number, number.text) == 0)
+            return fill(known_field_words, &(Places){.number = it->number, .name = it->name}, out);
+    return fill(unknown_field_words, &(Places){.number = number.text}, out);
+}
+
+static int fill_quotient(const char *name, size_t length, size_t before, const Places *places, Explanation *out)
+{
+    MemberText number, by;
+    return read_member(places->fault, name, before, &number) &&
+           read_member(places->fault, name + before + 1, length - before - 1, &by) && append_quotient(out, number.text, by.text);
 }
 
 /* What stands for a place, whose name is not yet without the brace behind it. */
-static int fill_place(const char *name, size_t length, const Members *members, Explanation *out)
+static int fill_place(const char *name, size_t length, const Places *places, Explanation *out)
 {
     const char *stroke = memchr(name, '/', length);
-    if (stroke) {
-        size_t before = (size_t)(stroke - name);
-        return append_quotient(out, member(members, name, before), member(members, stroke + 1, length - before - 1));
-    }
+    MemberText member;
+    if (places->number)
+        return append_text(out, strncmp(name, "number", length) == 0 ? places->number : places->name);
+    if (stroke)
+        return fill_quotient(name, length, (size_t)(stroke - name), places, out);
     if (length == 5 && memcmp(name, "scope", 5) == 0)
-        return fill_scope(members, out);
+        return fill_scope(places, out);
     if (length == 5 && memcmp(name, "field", 5) == 0)
-        return fill_field(members, out);
-    return append_text(out, member(members, name, length));
+        return fill_field(places, out);
+    return read_member(places->fault, name, length, &member) && append_text(out, member.text);
 }
 
 /* A text in which each name in braces is replaced by what stands for it. */
-static int fill(const char *text, const Members *members, Explanation *out)
+static int fill(const char *text, const Places *places, Explanation *out)
 {
     for (;;) {
         size_t plain = strcspn(text, "{");
@@ -151,7 +136,7 @@ static int fill(const char *text, const Members *members, Explanation *out)
         if (!*text)
             return 1;
         size_t length = strcspn(++text, "}");
-        if (!fill_place(text, length, members, out))
+        if (!fill_place(text, length, places, out))
             return 0;
         text += length + 1;
     }
@@ -159,21 +144,22 @@ static int fill(const char *text, const Members *members, Explanation *out)
 
 static const FaultWords *words_of(const char *code)
 {
-    for (const FaultWords *it = all_fault_words; code && it->code; ++it)
+    for (const FaultWords *it = all_fault_words; it->code; ++it)
         if (it->code == atoi(code))
             return it;
     return NULL;
 }
 
-int explain(const Members *members, Explanation *out)
+int explain(Bytes fault, Explanation *out)
 {
-    const char *code = member(members, "code", 4);
-    const FaultWords *words = words_of(code);
+    MemberText code;
+    const Places places = {.fault = fault};
+    const FaultWords *words = read_member(fault, "code", 4, &code) ? words_of(code.text) : NULL;
     out->length = 0;
     if (!words)
         return 0;
-    return append_text(out, code) && append_text(out, ": ") && append_text(out, words->title) && append_text(out, "\n") &&
-           fill(words->sentence, members, out) && append_text(out, "\nCause: ") && append_text(out, words->cause) &&
+    return append_text(out, code.text) && append_text(out, ": ") && append_text(out, words->title) && append_text(out, "\n") &&
+           fill(words->sentence, &places, out) && append_text(out, "\nCause: ") && append_text(out, words->cause) &&
            append_text(out, "\nWhat to do: ") && append_text(out, words->remedy) && append_text(out, "\n(") &&
            append_text(out, counting_words) && append_text(out, ")");
 }

@@ -107,7 +107,7 @@ static void mvt_explain(sqlite3_context *context, int count, sqlite3_value **arg
     Explanation it;
     if (has_null(count, argument))
         return;
-    if (!has_problem(context, explain_text(sqlite3_context_db_handle(context), fault_of(argument[0]), &it)))
+    if (!has_problem(context, explain_text(fault_of(argument[0]), &it)))
         sqlite3_result_text(context, it.text, (int)it.length, SQLITE_TRANSIENT);
 }
 

@@ -79,44 +79,8 @@ Problem problem_of(int status, int one, int other)
     }
 }
 
-/* What is wrong where the JSON functions of the database answered this status. */
-static Problem problem_of_json(int status)
+Problem explain_text(Bytes text, Explanation *out)
 {
-    if (status == SQLITE_OK || status == SQLITE_DONE)
-        return no_problem;
-    return status == SQLITE_NOMEM ? no_memory
-                                  : (Problem){SQLITE_ERROR, "mvt_explain needs the JSON functions of SQLite 3.38 or later"};
-}
-
-/* Adds the members of a fault, each by its name and the JSON of its value. */
-static Problem read_members(sqlite3_stmt *rows, Members *members)
-{
-    int status;
-    while ((status = sqlite3_step(rows)) == SQLITE_ROW) {
-        const char *name = (const char *)sqlite3_column_text(rows, 0), *text = (const char *)sqlite3_column_text(rows, 1);
-        if (!name || !text)
-            return no_memory;
-        size_t length = strlen(text), quotes = length > 1 && text[0] == '"';
-        if (!members_add(members, name, strlen(name), text + quotes, length - 2 * quotes))
-            return no_fault;
-    }
-    return problem_of_json(status);
-}
-
-Problem explain_text(sqlite3 *database, Bytes text, Explanation *out)
-{
-    static const char query[] = "SELECT substr(fullkey, 3), ?1 -> fullkey FROM json_tree(?1) WHERE atom IS NOT NULL";
-    sqlite3_stmt *rows;
-    Members members = {.count = 0};
     Problem problem = problem_of(sql_is_fault(text), MVTGATE_NOT_CONFIRMED, MVTGATE_NOT_CONFIRMED);
-    if (problem.text)
-        return problem;
-    problem = problem_of_json(sqlite3_prepare_v2(database, query, -1, &rows, NULL));
-    if (problem.text)
-        return problem;
-    problem = problem_of_json(sqlite3_bind_text64(rows, 1, (const char *)text.bytes, text.length, SQLITE_STATIC, SQLITE_UTF8));
-    if (!problem.text)
-        problem = read_members(rows, &members);
-    sqlite3_finalize(rows);
-    return problem.text || explain(&members, out) ? problem : no_fault;
+    return problem.text || explain(text, out) ? problem : no_fault;
 }

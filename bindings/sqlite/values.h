@@ -31,7 +31,7 @@ Problem read_profile(sqlite3_value *value, int *profile);
 /* What is wrong where the library answered neither of these statuses. */
 Problem problem_of(int status, int one, int other);
 
-/* Explains the fault of a text by the JSON functions of the database. */
-Problem explain_text(sqlite3 *database, Bytes text, Explanation *out);
+/* Explains the fault of a text. */
+Problem explain_text(Bytes text, Explanation *out);
 
 #endif

@@ -37,11 +37,14 @@ test_pages() {
     expect "the faults of mvtgate.1" "$python" packaging/tests/manual.py faults
     ! has /usr/bin/mandoc "the statuses of mvtgate.1" ||
         expect "the statuses of mvtgate.1" "$python" packaging/tests/manual.py statuses ./mvtgate
+    expect "the lines of mvtgate.1" "$python" packaging/tests/manual.py lines ./mvtgate
+    expect "the diagnostics of mvtgate.1" "$python" packaging/tests/manual.py diagnostics ./mvtgate
     expect "the options of mvtgate-planet.1" options_of mvtgate.planet packaging/mvtgate-planet.1
     expect "the options of mvtgate-check.1" options_of mvtgate.checking.command packaging/mvtgate-check.1
     expect "the statuses of mvtgate-check.1" statuses_of_check
     expect "the functions of mvtgate.3" "$python" packaging/tests/manual.py functions
     expect "the constants of mvtgate.3" "$python" packaging/tests/manual.py constants
+    expect "the members of mvtgate-planet.1" "$python" packaging/tests/manual.py members
 }
 
 # offered_by PROGRAM WORD..: what the function of the program's completion offers for the words, of which the last one is at

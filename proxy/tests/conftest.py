@@ -4,11 +4,12 @@ from __future__ import annotations
 import contextlib
 import gzip
 import pathlib
+import threading
 from typing import Iterator
 
 import pytest
 
-from running import TILES, nginx, nginx_of, sample
+from running import TILES, nginx, nginx_of, sample, wait_until
 
 VALID, FAULTY, CUT = sample("polygon"), sample("crossing_edges"), sample("cut_geometry")
 NAMES = sorted(it.stem for it in (TILES / "expected").glob("*.check"))
@@ -38,6 +39,14 @@ def nginx_with_samples(more: str = "") -> "contextlib.AbstractContextManager[str
         return nginx_of(server, folder)
 
     return nginx(configuration)
+
+
+@pytest.fixture(autouse=True)
+def no_thread_is_left() -> Iterator[None]:
+    """Each server of a test ends with it: what goes on would take the processor from those after it."""
+    before = threading.active_count()
+    yield
+    wait_until(lambda: threading.active_count() <= before)
 
 
 @pytest.fixture(scope="session")

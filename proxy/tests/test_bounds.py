@@ -114,6 +114,36 @@ def test_memory_has_a_bound() -> None:
         assert gate.get("/1/2/8").status == 200
 
 
+def test_a_tile_that_cannot_be_mended_now_may_be_later() -> None:
+    """As RFC 9110 has it of an overload that passes (15.6.4): 503, with the time after which to ask again."""
+    waiting = threading.Event()
+
+    def answer(asked: Asked) -> bytes:
+        if asked.target == "/1/2/9":
+            asked.connection.sendall(tile(FILLER)[:-1])
+            assert waiting.wait(SECONDS)
+            return FILLER[-1:]
+        return tile(FAULTY + b"\xa2\x01\x80\xc0\x3c" + bytes(991232))
+
+    # (the least memory for such a tile: 140 times its length)
+    words = ["--mode", "mend", "--max-tile", "1100000", "--max-packed", "8400000", "--memory", "154000000", "--upstream-time", "1h"]
+    with upstream(answer) as server, proxy(server.url, *words) as gate:
+        with held(gate, 10, "/1/2/9") as clients:
+            wait_until(lambda: gate.metric("memory_bytes") > 80 * MEGABYTE)
+            # (32 times its length is left to judge it, and not 132 times to mend it)
+            refused = gate.get(TILE)
+            told = refused.json()
+            assert (refused.status, refused.headers["Retry-After"], refused.headers["Cache-Control"]) == (503, "2", "no-store")
+            assert (told["unmended"], told["fault"]["code"]) == ("out_of_memory", 504) and '"code":504' in refused.headers["X-Tile-Fault"]
+            assert [it["unmended"] for it in gate.lines("fault")] == ["out_of_memory"]
+            waiting.set()
+            for it in clients:
+                assert it.recv(12).startswith(b"HTTP/1.1")
+        wait_until(lambda: gate.metric("memory_bytes") == 0)
+        mended = gate.get(TILE)
+        assert (mended.status, mended.headers["X-Tile-Mended"]) == (200, "504")
+
+
 def test_a_long_tile_is_not_mended_by_feature() -> None:
     # (a field with an unknown number and a length, as in FILLER)
     long = FAULTY + b"\xa2\x01\x80\x80\x40" + bytes(MEGABYTE)

@@ -10,7 +10,7 @@ import pytest
 
 from conftest import CUT, FAULTY, VALID
 from running import TILE_TYPE, Proxy, proxy
-from upstream import Asked, reply, tile, upstream
+from upstream import Asked, head_of, reply, tile, upstream
 
 TILE, ELSEWHERE = "/1/2/3.mvt", "/download?tile=1"
 DATE = "Wed, 01 Jan 2025 00:00:00 GMT"
@@ -289,8 +289,7 @@ def test_connections_are_kept() -> None:
         reader = client.makefile("rb")
         for _ in range(50):
             client.sendall(b"GET /1/2/3.mvt HTTP/1.1\r\nHost: a\r\n\r\n")
-            head = b"".join(iter(reader.readline, b"\r\n"))
-            assert head.startswith(b"HTTP/1.1 200") and reader.read(len(VALID)) == VALID
+            assert head_of(reader)[0].startswith(b"HTTP/1.1 200") and reader.read(len(VALID)) == VALID
         assert server.connections == 1
 
 

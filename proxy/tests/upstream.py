@@ -5,7 +5,7 @@ import contextlib
 import socket
 import threading
 from dataclasses import dataclass
-from typing import Callable, Dict, Iterator, List, Mapping, Optional
+from typing import BinaryIO, Callable, Dict, Iterator, List, Mapping, Optional
 
 from running import SECONDS, TILE_TYPE
 
@@ -36,6 +36,16 @@ def tile(body: bytes, **headers: str) -> bytes:
     return reply(body, **{"Content_Type": TILE_TYPE, **headers})
 
 
+def head_of(reader: BinaryIO) -> List[bytes]:
+    """The lines of a request or of an answer up to the empty one; none where the other side goes away before."""
+    lines: List[bytes] = []
+    for line in iter(reader.readline, b""):
+        if line == b"\r\n":
+            return lines
+        lines.append(line)
+    return []
+
+
 class Upstream:
     """A server with a thread for each connection."""
 
@@ -63,8 +73,8 @@ class Upstream:
         with contextlib.suppress(OSError), connection:
             reader = connection.makefile("rb")
             while True:
-                head = list(iter(reader.readline, b"\r\n"))
-                if not head or not head[-1].endswith(b"\r\n"):
+                head = head_of(reader)
+                if not head:
                     return
                 asked = self._read(head, connection)
                 reader.read(int(asked.headers.get("content-length", 0)))

@@ -112,6 +112,12 @@ def leaves_a_report(copy):
     for words in (["mend", "--help", "--report", str(report)], ["mend", "--", str(report), f"--report={report}"], ["check", "--report", str(report)]):
         tried(copy, ends(0), *words)
         assert not report.exists(), words
+    # (where it doesn't open the program says so, before it writes a tile)
+    (copy.room / "a file").write_text("")
+    for closed in (copy.room / "nowhere/report", copy.room / "a file/report", copy.room, ""):
+        for words in (["--report", str(closed)], [f"--report={closed}"]):
+            ended, line, said = tried(copy, 'echo "${*: -1}"\n' + ends(3), "mend", *words)
+            assert (ended, said) == (3, ["its error"]) and re.match(r"(--report=)?/proc/\d+/fd/missing\n", line), (closed, ended, line, said)
     # (the same file has the tile and takes the report)
     report.write_text("a tile")
     assert tried(copy, tells + 'cat "$4"\n' + ends(0), "mend", "--report", str(report), str(report))[1] == "a tilea line\n"

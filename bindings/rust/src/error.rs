@@ -42,7 +42,7 @@ impl From<OutOfMemory> for CheckError {
     }
 }
 
-/// Why a text was neither confirmed nor refused.
+/// Why a text wasn't read as a fault, and so neither confirmed nor refused.
 #[derive(Clone, Copy, Debug, PartialEq, Eq)]
 pub enum ConfirmError {
     /// Memory was refused.

@@ -31,6 +31,7 @@ mod error;
 mod fault;
 mod ffi;
 mod format;
+mod json;
 mod mended;
 mod profile;
 mod reader;
@@ -46,7 +47,6 @@ pub use fault::{Fault, RingEdge, Scope};
 pub use format::Format;
 pub use mended::{Change, Measures, Mended, MendedFeature, WhatChanged};
 pub use profile::Profile;
-pub use text::NotAFaultText;
 
 use std::borrow::Cow;
 use std::fmt;

@@ -1,9 +1,9 @@
-//! The JSON text of a fault: written from its members, and read back from just that text.
+//! The JSON text of a fault: written from its members, and read back.
 
 use crate::code::{CommandCode, RingCode, TagCode, WireCode};
 use crate::fault::{Fault, RingEdge, Scope};
 use crate::reader::Reader;
-use std::fmt;
+use crate::{confirm_text, json, unknown_text, ConfirmError, Profile};
 use std::str::FromStr;
 
 impl Fault {
@@ -77,27 +77,37 @@ fn edge_text(edge: RingEdge) -> String {
     format!(r#"{{"edge":{},"ring":{}}}"#, edge.edge, edge.ring)
 }
 
-/// A text that isn't, to the byte, the text of a fault.
-#[derive(Clone, Copy, Debug, PartialEq, Eq)]
-pub struct NotAFaultText;
+/// Reads what [`Fault::text`] gives, and any other spelling of the same JSON: spaces, the order of keys and the spelling of strings
+/// don't matter, and of equal keys the last one counts. The library reads it first, as [`confirm_text`] has it read.
+///
+/// ```
+/// # use mvtgate::{ConfirmError, Fault};
+/// assert_eq!(r#"{"layer": 3, "code": 201}"#.parse(), Ok(Fault::Version { layer: 3 }));
+/// assert_eq!("{}".parse::<Fault>(), Err(ConfirmError::NoFault));
+/// ```
+///
+/// # Panics
+///
+/// Where the library that is linked takes a text for a fault that this crate doesn't know: it is of another version.
+impl FromStr for Fault {
+    type Err = ConfirmError;
 
-impl fmt::Display for NotAFaultText {
-    fn fmt(&self, out: &mut fmt::Formatter<'_>) -> fmt::Result {
-        out.write_str("this is not the text of a fault as mvtgate writes it")
+    fn from_str(text: &str) -> Result<Self, ConfirmError> {
+        if let Some(fault) = read_spelled(text) {
+            return Ok(fault);
+        }
+        confirm_text(b"", text, Profile::Polygon)?;
+        Ok(json::respelled(text).and_then(|it| read_spelled(&it)).unwrap_or_else(|| unknown_text(text)))
     }
 }
 
-impl std::error::Error for NotAFaultText {}
-
-/// Reads exactly the texts that [`Fault::text`] gives. Other spellings of the same JSON are refused:
-/// [`confirm_text`](crate::confirm_text) takes those too.
-impl FromStr for Fault {
-    type Err = NotAFaultText;
-
-    fn from_str(text: &str) -> Result<Self, NotAFaultText> {
-        let reader = Reader::new(text);
-        let fault = if text.starts_with(r#"{"at":"#) { read_wire(reader) } else { read_rule(reader) };
-        fault.ok_or(NotAFaultText)
+/// The fault of a text that is to the byte as the library spells it.
+fn read_spelled(text: &str) -> Option<Fault> {
+    let reader = Reader::new(text);
+    if text.starts_with(r#"{"at":"#) {
+        read_wire(reader)
+    } else {
+        read_rule(reader)
     }
 }
 

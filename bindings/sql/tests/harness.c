@@ -1,7 +1,7 @@
 /* harness FILE..: gives each file to every call of calls.c, by both profiles, and prints what they answer, a line for each: the file's
  * number, the call, the profile, the status, and the texts, in which spaces stand for lines' ends. Each request for memory of a call is
  * refused in turn first: then it answers so, and has given back all that it took.
- * harness: explains faults. Each line of the input has a member's name, a tabulator and its text; an empty line ends a fault. */
+ * harness: explains faults, each of which is a line of the input. */
 #include <stdio.h>
 #include <stdlib.h>
 #include <string.h>
@@ -126,22 +126,17 @@ static void answer(int at, int number, int profile, Bytes tile)
 
 static void explain_all(void)
 {
-    static Members members;
-    static char line[256];
+    static char line[4096];
     while (fgets(line, sizeof line, stdin)) {
-        char *stroke = strchr(line, '\t');
         size_t length = strcspn(line, "\n");
-        if (stroke) {
-            size_t name = (size_t)(stroke - line);
-            if (!members_add(&members, line, name, stroke + 1, length - name - 1))
-                puts("no member");
-            continue;
-        }
+        /* (a block of its size, so that a read behind it is seen) */
+        char *text = malloc(length ? length : 1);
         Explanation *it = malloc(sizeof *it);
-        puts(explain(&members, it) ? it->text : "no fault");
+        memcpy(text, line, length);
+        puts(explain((Bytes){(const uint8_t *)text, length}, it) ? it->text : "no fault");
         puts("");
+        free(text);
         free(it);
-        members.count = 0;
     }
 }
 

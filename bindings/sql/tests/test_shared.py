@@ -5,7 +5,7 @@ from __future__ import annotations
 import json
 import pathlib
 import subprocess
-from typing import Any, Dict, Iterator, List, Tuple
+from typing import Any, Callable, Dict, Iterator, List, Tuple
 
 import pytest
 
@@ -13,7 +13,7 @@ import mvtgate
 from samples import PROFILES, SAMPLES, TOP
 
 SHARED, LIBRARY = TOP / "bindings/sql", TOP / "bindings/c/out"
-SOURCES = [SHARED / name for name in ("tests/harness.c", "calls.c", "explain.c", "words.c")]
+SOURCES = [SHARED / name for name in ("tests/harness.c", "calls.c", "explain.c", "member.c", "words.c")]
 WAYS: Dict[str, Tuple[List[str], List[str]]] = {
     "sanitizers": (["-fsanitize=address,undefined", "-fno-sanitize-recover=all"], []),
     "valgrind": ([], ["valgrind", "--quiet", "--error-exitcode=9", "--leak-check=full"]),
@@ -31,18 +31,8 @@ def program(request: Any, tmp_path_factory: pytest.TempPathFactory) -> List[str]
     return [*before, str(path)]
 
 
-def members(told: Dict[str, Any], outer: str = "") -> Iterator[Tuple[str, str]]:
-    """The members of a fault, one in an object under both of its names."""
-    for name, it in told.items():
-        if isinstance(it, dict):
-            yield from members(it, f"{name}.")
-        else:
-            yield f"{outer}{name}", str(it)
-
-
-def explained(program: List[str], faults: List[Dict[str, Any]]) -> List[str]:
-    lines = ("".join(f"{name}\t{it}\n" for name, it in members(fault)) + "\n" for fault in faults)
-    run = subprocess.run(program, input="".join(lines), check=True, capture_output=True, text=True)
+def explained(program: List[str], texts: List[str]) -> List[str]:
+    run = subprocess.run(program, input="".join(f"{it}\n" for it in texts), check=True, capture_output=True, text=True)
     assert run.stderr == ""
     return run.stdout.split("\n\n")[:-1]
 
@@ -79,12 +69,43 @@ def all_kinds() -> Iterator[Dict[str, Any]]:
 def test_words_are_those_of_python(program: List[str]) -> None:
     faults = list(all_kinds())
     assert {it["code"] for it in faults} == {int(it) for it in json.loads((TOP / "bindings/faults.json").read_text())["faults"]}
-    assert explained(program, faults) == [mvtgate.explain(mvtgate.Fault.from_text(json.dumps(it))) for it in faults]
+    assert explained(program, [json.dumps(it, separators=(",", ":")) for it in faults]) == [words_of(it) for it in faults]
+
+
+def words_of(fault: Dict[str, Any]) -> str:
+    """Those of Python."""
+    return mvtgate.explain(mvtgate.Fault.from_text(json.dumps(fault)))
+
+
+def escaped(text: str) -> str:
+    return '"' + "".join(f"\\u{ord(it):04{'xX'[at % 2]}}" for at, it in enumerate(text)) + '"'
+
+
+def respelled(value: Any, string: Callable[[str], str]) -> str:
+    """The same JSON with spaces, with keys in another order, and with other values before those that count."""
+    if isinstance(value, str):
+        return string(value)
+    if not isinstance(value, dict):
+        return str(value)
+    others = ["null", '"a\\"}\\\\"', '{"code": [1, {"ring": 7}], "ring": "]"}', "[[], {}]", "-1.5e2", '"\\u2028\\n"']
+    before = [f"{string(key)} :{others[at % len(others)]}" for at, key in enumerate(value)]
+    return "{ " + " ,".join([*before, *(f"{string(key)}\t: {respelled(it, string)}\r" for key, it in reversed(value.items()))]) + " } "
+
+
+@pytest.mark.parametrize("string", [json.dumps, escaped])
+def test_a_fault_may_be_spelled_otherwise(program: List[str], string: Callable[[str], str]) -> None:
+    # (the last of equal keys counts: RFC 8259 leaves it open, and the library has it so)
+    faults = list(all_kinds())
+    assert explained(program, [respelled(it, string) for it in faults]) == [words_of(it) for it in faults]
 
 
 def test_no_fault_is_explained(program: List[str]) -> None:
     wrong: List[Dict[str, Any]] = [{}, {"code": 999}, {"code": 201}, {"code": "x", "layer": 1}, {**MEETING, "x": "1", "y": "1"}, {"code": 101, "at": 1, "field": 1, "scope": "row"}]
-    assert explained(program, wrong) == ["no fault"] * len(wrong)
+    texts = [json.dumps(it) for it in wrong]
+    # (nothing is read behind a text, though only whole JSON is handed over)
+    whole = json.dumps({**MEETING, "x": "1", "y": "1", "w": "1"})
+    texts += ["", "[]", "7", '"', *(whole[:length] for length in range(len(whole) - 6))]
+    assert explained(program, texts) == ["no fault"] * len(texts)
 
 
 def expected(tile: bytes, name: str, call: str) -> List[str]:

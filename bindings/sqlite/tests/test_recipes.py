@@ -6,7 +6,7 @@ import pathlib
 import re
 import sqlite3
 import subprocess
-from typing import Any, Callable, List
+from typing import Any, Callable, List, Optional
 
 import pytest
 
@@ -121,6 +121,24 @@ def test_the_program_sqlite3(extension: pathlib.Path, archive: Any, tmp_path: pa
     said = command[0].replace("bindings/sqlite/out/mvtgate", str(extension.with_suffix("")))
     run = subprocess.run(["sh", "-ec", said], cwd=tmp_path, check=True, capture_output=True, text=True)
     assert run.stdout == f"{sum(not it.is_valid('polygon') for it in SAMPLES)}\n" and run.stderr == ""
+
+
+def test_the_lines_of_embedding(extension: pathlib.Path, archive: Any, tmp_path: pathlib.Path) -> None:
+    archive.executemany(INSERT, enumerate((gzip.compress(CROSSING), VALID)))
+    archive.commit()
+    shown = re.search(r"(?ms)^```sql\n(\.load .*?)^```$", (TOP / "docs/EMBEDDING.md").read_text())
+    assert shown
+    lines = shown[1].replace("bindings/sqlite/out/mvtgate", str(extension.with_suffix("")))
+    tries = "".join(f"INSERT INTO tiles VALUES (0, 0, {row}, {tile});\n" for row, tile in enumerate(("NULL", "x'ff'", f"x'{VALID.hex()}'"), 2))
+    run = subprocess.run(["sqlite3", "map.mbtiles"], input=lines + tries, cwd=tmp_path, capture_output=True, text=True)
+    assert run.stdout == f"0|0|0|{mvtgate.explain(sure(mvtgate.check(CROSSING)))}\n" and run.stderr.count("the tile is not valid") == 2
+    assert archive.execute("SELECT tile_row FROM tiles ORDER BY 1").fetchall() == [(0,), (1,), (4,)]
+
+
+def sure(fault: Optional[mvtgate.Fault]) -> mvtgate.Fault:
+    """The fault, which is there."""
+    assert fault
+    return fault
 
 
 def test_nothing_else_is_exported(extension: pathlib.Path) -> None:

@@ -80,6 +80,25 @@ def test_a_fault_with_other_spaces_and_order(database: Any) -> None:
     assert one(database, "mvt_confirm(x'1a0578010a0161', ?)", fault) == 0
 
 
+@pytest.mark.parametrize("fault", [
+    '{"code":200,"layer":9,"code":201,"layer":3}',
+    '{"layer":{"code":[1,2]},"layer":3,"code":"}","code":201}',
+    '{"\\u0063ode":201,"l\\u0061yer":3}',
+    '{"l\\u0061yer":9,"layer":3,"code":201}',
+])
+def test_a_fault_is_read_as_the_program_reads_it(database: Any, fault: str) -> None:
+    # (of equal keys the last one counts, and the spelling of strings doesn't matter)
+    assert one(database, "mvt_explain(?)", fault).splitlines()[1] == "The version of layer 3 isn't 2."
+    assert one(database, "mvt_confirm('', ?)", fault) == 0
+
+
+@pytest.mark.parametrize("fault", ['{"code":201,"layer":3,"layer":null}', '{"layer":3,"code":201,"code":200}', "[" * 128 + "]" * 128, '{"code":201,"layer":1e999,"layer":3}'])
+def test_what_the_program_does_not_read(database: Any, fault: str) -> None:
+    for call in ("mvt_confirm('', ?)", "mvt_explain(?)"):
+        with pytest.raises(sqlite3.OperationalError, match="the JSON is no fault"):
+            one(database, call, fault)
+
+
 @pytest.mark.parametrize("pack", [gzip.compress, zlib.compress])
 def test_a_broken_stream_is_judged_as_it_is(database: Any, pack: Callable[[bytes], bytes]) -> None:
     packed = pack(VALID)

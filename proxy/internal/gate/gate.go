@@ -131,8 +131,8 @@ func (it *Gate) Judge(ctx context.Context, packed []byte, encoding string) (*Ver
 	return verdict, nil
 }
 
-// Mend is a valid tile in place of a faulty one, packed as that was. The error is its *mvtgate.Fault where it can't be mended, and
-// another one where it isn't tried, as of a tile that is too long for the profile feature.
+// Mend is a valid tile in place of a faulty one, packed as that was. The error is its *mvtgate.Fault where it can't be mended, an
+// *Unjudged where no memory or no turn is left, and another one where it isn't tried: the tile is too long for the profile feature.
 func (it *Gate) Mend(ctx context.Context, packed []byte, encoding string) (mended []byte, err error) {
 	err = it.withTile(ctx, packed, encoding, func(tile []byte) error {
 		if it.Profile == mvtgate.ProfileFeature && len(tile) > LongestMendedByFeature {

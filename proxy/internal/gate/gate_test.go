@@ -192,6 +192,9 @@ func TestWhoWaitsForATurnCanGoAway(t *testing.T) {
 	if _, err := gate.Judge(context.Background(), nil, ""); !errors.Is(err, Busy) {
 		t.Error(err)
 	}
+	if _, err := gate.Mend(context.Background(), nil, ""); !errors.Is(err, Busy) {
+		t.Error(err)
+	}
 	<-gate.turns
 	if verdict, err := gate.Judge(context.Background(), nil, ""); err != nil || verdict.Fault != nil {
 		t.Error(verdict, err)

@@ -24,7 +24,11 @@ const (
 )
 
 // faulty is the error that a tile has a fault.
-type faulty struct{ *gate.Verdict }
+type faulty struct {
+	*gate.Verdict
+	// unmended is why it wasn't mended, where it may be later: no memory or no turn was left.
+	unmended *gate.Unjudged
+}
 
 func (it *faulty) Error() string { return it.Fault.Error() }
 
@@ -92,7 +96,7 @@ func (it *exchange) reported(header http.Header, packed *gate.Bytes, reason erro
 
 // mended is the answer with a mended tile. It has a tag of its own, and nothing that is true of the other tile's bytes.
 func (it *exchange) mended(header http.Header, tile []byte, verdict *gate.Verdict, release func()) *http.Response {
-	it.tell(&faulty{verdict}, telling.Mended)
+	it.tell(&faulty{Verdict: verdict}, telling.Mended)
 	for _, name := range []string{"Last-Modified", "Content-Md5", "Digest", "Content-Digest", "Repr-Digest", "Accept-Ranges"} {
 		header.Del(name)
 	}
@@ -157,16 +161,23 @@ func (it *exchange) refusal(reason error, upstream http.Header) *http.Response {
 			"error": "the tile did not pass the gate", "code": fault.Fault.Code, "title": fault.Fault.Title(), "place": fault.Fault.Place(),
 			"explanation": strings.Split(fault.Explanation, "\n"), "fault": fault.Fault,
 		}
+		if fault.unmended != nil {
+			status, told["unmended"] = statusOf(fault.unmended, header), fault.unmended.Code
+		}
 	} else {
 		known := knownReason(reason)
-		status = known.Status
-		told = map[string]any{"error": known.Sentence, "unjudged": known.Code}
-		if known.RetryAfter > 0 {
-			header.Set("Retry-After", strconv.Itoa(known.RetryAfter))
-		}
+		status, told = statusOf(known, header), map[string]any{"error": known.Sentence, "unjudged": known.Code}
 	}
 	told["address"] = it.asked.URL.RequestURI()
 	return it.response(status, header, encoded(told), nil)
+}
+
+// statusOf is the status by a reason, whose header says when to ask again where that may help.
+func statusOf(reason *gate.Unjudged, header http.Header) int {
+	if reason.RetryAfter > 0 {
+		header.Set("Retry-After", strconv.Itoa(reason.RetryAfter))
+	}
+	return reason.Status
 }
 
 func encoded(told map[string]any) []byte {
@@ -202,10 +213,14 @@ func (it *exchange) tell(reason error, answer string) {
 		return
 	}
 	it.Metrics.Fault(fault.Fault.Code, fault.Layer, answer)
-	it.Log.Line("fault", map[string]any{
+	line := map[string]any{
 		"address": it.asked.URL.RequestURI(), "answer": answer, "code": fault.Fault.Code, "layer": fault.Layer,
 		"sentence": fault.Fault.Sentence(), "fault": fault.Fault,
-	})
+	}
+	if fault.unmended != nil {
+		line["unmended"] = fault.unmended.Code
+	}
+	it.Log.Line("fault", line)
 }
 
 func (it *exchange) tellUnjudged(reason *gate.Unjudged, answer string) {

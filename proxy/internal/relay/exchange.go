@@ -215,11 +215,13 @@ func (it *exchange) judged(header http.Header, packed *gate.Bytes) (*http.Respon
 		it.Good.keep(it.asked, header, packed.Read)
 		return it.sent(header, packed.Read, packed.Release), nil
 	case it.Mode == Report:
-		return it.reported(header, packed, &faulty{verdict}), nil
+		return it.reported(header, packed, &faulty{Verdict: verdict}), nil
 	case it.Mode == Mend:
-		if mended, err := it.Gate.Mend(it.request.Context(), packed.Read, encoding); err == nil {
+		mended, err := it.Gate.Mend(it.request.Context(), packed.Read, encoding)
+		if err == nil {
 			return it.mended(header, mended, verdict, packed.Release), nil
 		}
+		return nil, &faulty{verdict, unjudgedOf(err)}
 	}
-	return nil, &faulty{verdict}
+	return nil, &faulty{Verdict: verdict}
 }

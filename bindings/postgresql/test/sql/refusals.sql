@@ -27,9 +27,11 @@ FROM unnest(ARRAY[
     '{"code": 201, "layer": 0, "more": 1}', '{"code": 999, "layer": 0}', '{"code": 201, "layer": 18446744073709551616}',
     '{"at": 0, "code": 105, "field": 4294967296, "scope": "tile"}', '{"at": 0, "code": 105, "field": 3, "scope": "row"}',
     '{"code": 504, "feature": 0, "first": {"edge": 0, "ring": 0}, "layer": 0, "polygon": 0, "second": [0, 0], "w": "1", "x": "0", "y": "0"}',
-    '{"code": 201, "layer": 18446744073709551615}', '{"layer": 3, "code": 2.01e2}'
+    '{"code": 201, "layer": 18446744073709551615}', '{"layer": 3, "code": 2.01e2}', '{"code": 200, "layer": 9, "code": 201, "layer": 3}'
 ]) AS fault;
 SELECT split_part(mvt_explain('{"code": 201, "layer": 18446744073709551615}'), E'\n', 2) AS sentence;
+-- (of equal keys the last one counts)
+SELECT split_part(mvt_explain('{"code": 200, "layer": 9, "code": 201, "l\u0061yer": 3}'), E'\n', 2) AS sentence;
 
 -- a tile that is too long
 SET mvtgate.longest_tile = 14;
