@@ -31,6 +31,7 @@ const RULES = {
   },
 };
 
+const VARINT = 0;
 const WIRE_TYPES = ['varint', 'eight bytes', 'length and bytes', 'group', 'end of group', 'four bytes', 'no wire type', 'no wire type'];
 
 /**
@@ -40,6 +41,16 @@ const WIRE_TYPES = ['varint', 'eight bytes', 'length and bytes', 'group', 'end o
  */
 export function ruleOf(message, number) {
   return RULES[message][number] ?? null;
+}
+
+/**
+ * Whether a field's own wire type is this one. A list of numbers has two: packed, and a single number (Protocol Buffers encoding).
+ * @param {FieldRule} rule
+ * @param {number} wireType
+ * @returns {boolean}
+ */
+export function takesWireType(rule, wireType) {
+  return rule.wireType === wireType || (rule.kind === 'numbers' && wireType === VARINT);
 }
 
 /**

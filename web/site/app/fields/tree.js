@@ -4,7 +4,7 @@
 import { element } from '../tools/dom.js';
 import { digits } from '../tools/text.js';
 import { hasParts, partsOf, wholeOf } from './parts.js';
-import { contentText, nameOf, textsOfNumbers } from './words.js';
+import { contentText, nameOf } from './words.js';
 
 /** @typedef {import('./parts.js').Part} Part */
 /** @typedef {{part: Part, item: HTMLElement, above: Branch|null, group: HTMLElement|null, below: Map<number, Branch>}} Branch a part that is listed; those below it by their indices */
@@ -39,7 +39,7 @@ export class FieldTree {
   show(bytes) {
     this.clear();
     this.#bytes = bytes;
-    this.#root = this.#branch(wholeOf(bytes), null, contentText(bytes, wholeOf(bytes)));
+    this.#root = this.#branch(wholeOf(bytes), null);
     this.#host.append(this.#root.item);
     this.#open(this.#root, 0);
     this.#mark(this.#root);
@@ -80,11 +80,11 @@ export class FieldTree {
   /**
    * @param {Part} part
    * @param {Branch|null} above
-   * @param {string} content
    * @returns {Branch}
    */
-  #branch(part, above, content) {
-    const line = element('span', { class: 'field-line' }, element('b', {}, nameOf(part)), ' ', element('span', { class: 'small' }, content));
+  #branch(part, above) {
+    const content = element('span', { class: 'small' }, contentText(this.#bytes, part));
+    const line = element('span', { class: 'field-line' }, element('b', {}, nameOf(part)), ' ', content);
     const item = element('li', { role: 'treeitem', tabindex: -1, 'aria-selected': 'false', 'data-at': part.at, 'aria-expanded': hasParts(part) ? 'false' : undefined }, line);
     const branch = { part, item, above, group: null, below: new Map() };
     this.#branches.set(item, branch);
@@ -98,8 +98,7 @@ export class FieldTree {
    */
   #open(branch, index) {
     const first = index - (index % LISTED), { parts, count } = partsOf(this.#bytes, branch.part, first, LISTED);
-    const texts = branch.part.isList ? textsOfNumbers(this.#bytes, branch.part, first, LISTED) : [];
-    branch.below = new Map(parts.map((part, at) => [part.index, this.#branch(part, branch, texts[at] ?? contentText(this.#bytes, part))]));
+    branch.below = new Map(parts.map((part) => [part.index, this.#branch(part, branch)]));
     const items = [...branch.below.values()].map(({ item }) => item), last = first + parts.length;
     if (first > 0) items.unshift(this.#more(branch, `${digits(first)} before`, first - 1));
     if (last < count) items.push(this.#more(branch, `${digits(count - last)} after`, last));
