@@ -44,13 +44,12 @@ export function ruleOf(message, number) {
 }
 
 /**
- * Whether a field's own wire type is this one. A list of numbers has two: packed, and a single number (Protocol Buffers encoding).
+ * The wire types that a field may have. A list of numbers has two: packed, and a single number (Protocol Buffers encoding).
  * @param {FieldRule} rule
- * @param {number} wireType
- * @returns {boolean}
+ * @returns {number[]}
  */
-export function takesWireType(rule, wireType) {
-  return rule.wireType === wireType || (rule.kind === 'numbers' && wireType === VARINT);
+export function ownWireTypes({ wireType, kind }) {
+  return kind === 'numbers' ? [wireType, VARINT] : [wireType];
 }
 
 /**

@@ -3,7 +3,7 @@
 
 import { meaningDue, passNumber, textOfNumber } from '../../../../bindings/js/src/tile/commands.js';
 import { Cursor } from '../../../../bindings/js/src/tile/cursor.js';
-import { ruleOf, takesWireType } from '../../../../bindings/js/src/tile/schema.js';
+import { ownWireTypes, ruleOf } from '../../../../bindings/js/src/tile/schema.js';
 
 /** @typedef {import('../../../../bindings/js/src/tile/schema.js').MessageKind} MessageKind */
 /**
@@ -80,7 +80,7 @@ export class Lists {
   /** @param {{progress: Progress, cursor: Cursor}} list whose cursor is at one of its fields */
   #goPast({ progress, cursor: { number, wireType, payload, next } }) {
     const rule = ruleOf(this.#within, number);
-    if (!rule || !takesWireType(rule, wireType)) return;
+    if (!rule || !ownWireTypes(rule).includes(wireType)) return;
     const numbers = new Cursor(this.#bytes, { begin: payload, end: next });
     for (let it = numbers.readNumber(); it >= 0; it = numbers.readNumber()) goPast(progress, it);
   }

@@ -3,7 +3,7 @@
 
 import { Cursor } from '../../../../bindings/js/src/tile/cursor.js';
 import { beginField } from '../../../../bindings/js/src/tile/fields.js';
-import { ruleOf, takesWireType } from '../../../../bindings/js/src/tile/schema.js';
+import { ownWireTypes, ruleOf } from '../../../../bindings/js/src/tile/schema.js';
 import { Lists, goPast } from './lists.js';
 
 /** @typedef {import('../../../../bindings/js/src/tile/schema.js').MessageKind} MessageKind */
@@ -123,7 +123,7 @@ function fieldsIn(bytes, part, within, isWanted) {
  * @returns {Part}
  */
 function fieldAt({ bytes, at, end, next, payload, number, wireType }, within, lists, place) {
-  const rule = ruleOf(within, number), isOwn = rule !== null && takesWireType(rule, wireType), isDelimited = wireType === DELIMITED;
+  const rule = ruleOf(within, number), isOwn = rule !== null && ownWireTypes(rule).includes(wireType), isDelimited = wireType === DELIMITED;
   const progress = isOwn && rule.kind === 'numbers' ? lists.before(number, at) : null;
   return {
     is: 'field', ...place, at, keyEnd: beginField(bytes, at, end).keyEnd, payload, end: next, number, wireType, isOwn,
