@@ -122,6 +122,13 @@ test('fields of another wire type have no ordinal, and take none', () => {
   assert.deepEqual(linesOfFeature(tile), ['tags: four bytes, 4 bytes', 'type: 1 (POINT)']);
 });
 
+test('floats have their sign, and as few digits as tell them from others', () => {
+  // (IEEE 754, least significant byte first: 0x3dcccccd is the float nearest to 0.1)
+  const tile = new Uint8Array(field(3, [[0x15, 0xcd, 0xcc, 0xcc, 0x3d], [0x15, 0, 0, 0, 0x80], [0x19, 0, 0, 0, 0, 0, 0, 0, 0x80]].flatMap((value) => field(4, value))));
+  const [layer] = all(tile, wholeOf(tile));
+  assert.deepEqual(texts(tile, layer, 0, 9), ['float 0.1', 'float -0', 'double -0']);
+});
+
 test('a window of many parts', () => {
   const many = tileOf(Array.from({ length: 500 }, () => feature(1, [9, 2, 2]))), [layer] = all(many, wholeOf(many));
   const { parts, count } = partsOf(many, layer, 200, 3);

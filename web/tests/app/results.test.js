@@ -61,6 +61,8 @@ test('what a fault is about', () => {
   const id = field(2, [0x08, ...Array(9).fill(0xff), 1, 0x18, 1, ...field(4, [10, 2, 2])]);
   const other = new Uint8Array(field(3, [0x78, 2, ...field(1, [0xc3, 0x9f]), 0x28, 0x80, 4, ...id]));
   assert.deepEqual(aboutOf({ code: 401, layer: 0, feature: 0, index: 0 }, other), { layer: 'ß', featureId: '18446744073709551615', extent: 512 });
+  const marked = new Uint8Array(field(3, [0x78, 2, ...field(1, [0xef, 0xbb, 0xbf, 0x61])]));
+  assert.equal(aboutOf({ code: 201, layer: 0 }, marked).layer, '\ufeffa');
   assert.deepEqual(aboutOf({ code: 202, first: 0, second: 1 }, tile), { layer: 'a', featureId: null, extent: 4096 });
   assert.deepEqual(aboutOf({ code: 105, at: 0, field: 3, scope: 'tile' }, Uint8Array.of(0x1a, 9)), { layer: null, featureId: null, extent: 4096 });
   assert.deepEqual(aboutOf({ code: 504, layer: 7, feature: 0 }, tile), { layer: null, featureId: null, extent: 4096 });

@@ -1,7 +1,7 @@
 // What is said of a part of a tile's bytes.
 
 import { readVarint } from '../../../../bindings/js/src/tile/fields.js';
-import { typeName } from '../../../../bindings/js/src/tile/layers.js';
+import { floatText, typeName } from '../../../../bindings/js/src/tile/layers.js';
 import { ruleOf, wireTypeName } from '../../../../bindings/js/src/tile/schema.js';
 import { shortText } from '../../../../bindings/js/src/picture/words.js';
 import { counted } from '../tools/text.js';
@@ -43,7 +43,7 @@ export function contentText(bytes, part) {
   const rule = ruleOf(within, number);
   if (!rule || !isOwn) return `${wireTypeName(wireType)}, ${sizeText(part)}`;
   if (rule.kind === 'text') return shortText(bytes.subarray(payload, end));
-  if (rule.kind === 'float') return floatText(bytes, part);
+  if (rule.kind === 'float') return floatText(bytes.subarray(payload, end));
   const varint = readVarint(bytes, payload, end)?.value ?? 0n;
   if (progress) return textOf(varint, progress);
   return within === 'feature' && number === TYPE ? `${varint} (${typeName(Number(varint))})` : numberText(rule.kind, varint);
@@ -62,15 +62,6 @@ function numberText(kind, varint) {
   if (kind === 'bool') return varint === 0n ? 'false' : 'true';
   if (kind === 'zigzag') return String((varint >> 1n) ^ -(varint & 1n));
   return String(kind === 'signed' ? BigInt.asIntN(64, varint) : varint);
-}
-
-/**
- * @param {Uint8Array} bytes
- * @param {Part} part
- */
-function floatText(bytes, { payload, end }) {
-  const view = new DataView(bytes.buffer, bytes.byteOffset + payload, end - payload);
-  return String(end - payload === 8 ? view.getFloat64(0, true) : view.getFloat32(0, true));
 }
 
 /**
