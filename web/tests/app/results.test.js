@@ -4,6 +4,7 @@ import { readFileSync } from 'node:fs';
 import { test } from 'node:test';
 import { SAMPLES, TOP, YES, sample } from '../../../bindings/js/tests/samples.js';
 import { feature, field, tileOf } from '../../../bindings/js/tests/wire.js';
+import { explainFormat } from '../../../bindings/js/src/words/explain.js';
 import { newEntry } from '../../site/app/files/checks.js';
 import { aboutOf, pointOf } from '../../site/app/results/about.js';
 import { addressOf, boxOn, positionOn } from '../../site/app/results/address.js';
@@ -110,6 +111,13 @@ test('results as lines of JSON', () => {
   assert.deepEqual([one.file, one.fault], ['a.mvt', entries[0].fault]);
   assert.ok(one.sentence.startsWith('In the tile'));
   assert.deepEqual(others, [{ file: 'b.mvt', valid: true }, { file: 'c', error: 'no' }]);
+});
+
+test('a line of JSON has the name of another format, as mvtgate-check writes it', () => {
+  const entry = entryOf('a.mvt', 'truncated'), format = explainFormat({ code: 104 }, Uint8Array.of(0x1f, 0x8b));
+  const { sentence, ...others } = JSON.parse(jsonOf([{ ...entry, format }]));
+  assert.deepEqual(others, { file: 'a.mvt', fault: entry.fault, format: 'gzip' });
+  assert.ok(!sentence.includes(format?.sentence)); // (it has a key of its own)
 });
 
 test('results of a tile of an archive name the archive and the tile, as mvtgate-check does', () => {
