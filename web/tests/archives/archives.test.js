@@ -112,6 +112,22 @@ test('trees of a database that lead round in circles come to an end', async () =
   await assert.rejects(archive.tile(TILES['many.mbtiles'][0].place), /a tree of it leads nowhere/);
 });
 
+test('what could not be read is read again when it is asked for again', async () => {
+  for (const name of ['leaves.pmtiles', 'many.mbtiles']) {
+    let isThere = true;
+    const whole = new Blob([bytesOf(name)]), { place } = TILES[name][TILES[name].length >> 1];
+    const slice = (/** @type {number} */ begin, /** @type {number} */ end) => {
+      const part = whole.slice(begin, end);
+      return { arrayBuffer: () => (isThere ? part.arrayBuffer() : Promise.reject(new Error('the disk is gone'))) };
+    };
+    const archive = await openArchive(name.endsWith('.pmtiles') ? 'pmtiles' : 'mbtiles', /** @type {any} */ ({ size: whole.size, slice }));
+    isThere = false;
+    await assert.rejects(archive.present([place]), /the browser could not read the file/);
+    isThere = true;
+    assert.deepEqual(await archive.present([place]), [place], name);
+  }
+});
+
 test('archives are told from tiles by their bytes', async () => {
   const sources = ['plain.pmtiles', 'plain.mbtiles', 'tiles.json'].map((name) => ({ name: `a/${name}`, file: new Blob([bytesOf(name)]) }));
   const named = { name: 'a.mvt', file: new Blob([bytesOf('plain.mbtiles')]) };
