@@ -62,7 +62,7 @@ test('what has no tiles, or no index for them, is told', async () => {
 /** @type {[what: string, at: number, byte: number, said: RegExp][]} bytes of the header */
 const OTHERS = [
   ['another version', 7, 2, /version 2, and only version 3/], ['directories by brotli', 97, 3, /its directories are packed by brotli/],
-  ['tiles by Zstandard', 98, 4, /its tiles are packed by Zstandard/], ['pictures', 99, 2, /but PNG pictures/],
+  ['tiles by Zstandard', 98, 4, /its tiles are packed by Zstandard/], ['pictures', 99, 2, /but PNG pictures/], ['MapLibre tiles', 99, 6, /no Mapbox vector tiles, but MapLibre tiles/],
   ['a section beyond the end', 62, 1, /is beyond its end/], ['a section that no file has', 63, 255, /is beyond its end/],
 ];
 for (const [what, at, byte, said] of OTHERS) {

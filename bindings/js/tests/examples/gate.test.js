@@ -49,6 +49,12 @@ test('a tile that is refused has the words of its own status', async () => {
   assert.deepEqual([statusCode, statusMessage, length], [500, 'Internal Server Error', 0]);
 });
 
+test('tiles are known by each of their types, and nothing else is', async () => {
+  const by = async (/** @type {string} */ type) => (await answered(FAULTY, (it) => it.writeHead(200, { 'Content-Type': type }).end('tile'))).statusCode;
+  for (const type of ['application/vnd.mapbox-vector-tile', 'application/x-protobuf', 'application/protobuf', 'Application/Protobuf; charset=utf-8']) assert.equal(await by(type), 500, type);
+  for (const type of ['application/json', 'application/x-protobuffer', 'image/png']) assert.equal(await by(type), 200, type);
+});
+
 test('the name of a packing may have capitals, and one that is unknown is refused', async () => {
   const packed = gzipSync('tile'), by = (/** @type {string} */ name) => answered(VALID, (it) => it.writeHead(200, { ...TILE, 'Content-Encoding': name }).end(packed));
   const { statusCode, headers, length } = await by('GZIP');
