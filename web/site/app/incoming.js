@@ -32,13 +32,21 @@ export function receiveFiles(receiver) {
   }
   receiveDrops(receiver);
   document.addEventListener('paste', (event) => {
-    if (event.target instanceof HTMLTextAreaElement || event.target instanceof HTMLInputElement || !event.clipboardData) return;
+    if (takesText(event.target) || !event.clipboardData) return;
     const text = event.clipboardData.getData('text/plain'), hasFiles = [...event.clipboardData.items].some(({ kind }) => kind === 'file');
     if (text && receiveText(receiver, text)) return;
     // (some systems put the names of copied files beside them as a text, and spreadsheets a picture beside a text)
     if (text && !hasFiles) receiver.refuse(new Unreadable(NO_LINK), 'pasted text');
     else takeTransfer(receiver, event.clipboardData);
   });
+}
+
+/**
+ * Whether what is pasted goes into an element. (In Chromium radios and choosers of files are asked too, which may have the focus.)
+ * @param {EventTarget|null} element
+ */
+function takesText(element) {
+  return element instanceof HTMLTextAreaElement || (element instanceof HTMLInputElement && ['text', 'search'].includes(element.type));
 }
 
 /**

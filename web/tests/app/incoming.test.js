@@ -31,8 +31,15 @@ beforeEach(() => { came.length = 0; });
 
 /** @param {string} text @param {...string} files their names */
 async function paste(text, ...files) {
+  return pasteInto(page, text, ...files);
+}
+
+/** @param {object} target @param {string} text @param {...string} files */
+async function pasteInto(target, text, ...files) {
   const items = [...(text ? [{ kind: 'string' }] : []), ...files.map((name) => ({ kind: 'file', webkitGetAsEntry: () => null, getAsFile: () => ({ name }) }))];
-  page.dispatchEvent(Object.assign(new Event('paste'), { clipboardData: { getData: () => text, items } }));
+  const event = Object.assign(new Event('paste'), { clipboardData: { getData: () => text, items } });
+  Object.defineProperty(event, 'target', { value: target });
+  page.dispatchEvent(event);
   await setImmediate();
   return came.splice(0);
 }
@@ -45,6 +52,12 @@ test('what is pasted is a text with a tile, or else files', async () => {
   // (the names of files beside them; a picture of cells beside their text)
   assert.deepEqual(await paste('/home/a.mvt', 'a.mvt'), ['a.mvt']);
   assert.deepEqual(await paste('1a00', 'cells.png'), ['pasted tile']);
+});
+
+test('what is pasted into a field for texts stays there, and no other element takes it', async () => {
+  const input = (/** @type {string} */ type) => Object.assign(new HTMLInputElement(), { type });
+  for (const type of ['radio', 'file', 'checkbox']) assert.deepEqual(await pasteInto(input(type), '1a00'), ['pasted tile'], type);
+  for (const element of [input('text'), input('search'), new HTMLTextAreaElement()]) assert.deepEqual(await pasteInto(element, '1a00'), []);
 });
 
 /** @param {string} hash of the link @param {object} keys that are held */
