@@ -19,6 +19,7 @@ import { byId } from './tools/dom.js';
 
 // (so it is in Chromium)
 const NO_FOLDER = "a page that was opened from a disk can't read a folder that is dropped; use 'Choose a folder'";
+const UNREAD_FOLDER = "the browser can't read a part of it; use 'Choose a folder'";
 const NO_LINK = 'it is no link with a tile, which stands after #tile=, nor a tile in hexadecimal or base64';
 
 /** @param {Receiver} receiver */
@@ -85,7 +86,8 @@ function receiveDrops(receiver) {
  * @param {DataTransfer} transfer
  */
 function takeTransfer(receiver, transfer) {
-  gatherDropped(transfer).then(receiver.take, () => receiver.refuse(new Unreadable(NO_FOLDER), 'dropped folder'));
+  const reason = location.protocol === 'file:' ? NO_FOLDER : UNREAD_FOLDER;
+  gatherDropped(transfer).then(receiver.take, () => receiver.refuse(new Unreadable(reason), 'dropped folder'));
 }
 
 /** @param {Receiver} receiver */
