@@ -51,6 +51,13 @@ test('a tile in the middle has as many on each side', async () => {
   assert.deepEqual(await (await opened('plain.mbtiles')).middle(10), { column: 534, row: 353 });
 });
 
+test('a database that may have a log beside it says so', async () => {
+  const bytes = bytesOf('plain.mbtiles');
+  assert.equal((await opened('plain.mbtiles', bytes)).note, '');
+  bytes.fill(2, 18, 20); // (the versions of the format for writing and reading: 2 for a log)
+  assert.match((await opened('plain.mbtiles', bytes)).note, /whose name ends with -wal/);
+});
+
 test('what has no tiles, or no index for them, is told', async () => {
   await assert.rejects(opened('no_index.mbtiles'), /^Error: it has no index for its tiles; make one: CREATE UNIQUE INDEX/);
   await assert.rejects(opened('backwards.mbtiles'), /it has no index/);

@@ -80,7 +80,7 @@ export class ArchivePanel {
     this.#opened = { archive, name, zooms, picks: new Picks(archive, name) };
     this.#section.hidden = false;
     byId('archive-name', HTMLElement).textContent = name;
-    byId('archive-note', HTMLElement).textContent = note;
+    byId('archive-note', HTMLElement).textContent = [note, archive.note].filter(Boolean).join(' ');
     this.#zoom.replaceChildren(...zooms.map((zoom) => element('option', { value: zoom }, String(zoom))));
     await this.#goToMiddle(zooms[0]);
     this.#grid.focus();

@@ -23,6 +23,8 @@ export class Pages {
   usable;
   /** How texts are written. */
   encoding;
+  /** Whether a log of changes may stand beside the file (its format, section 4). */
+  mayHaveLog;
 
   /**
    * @param {Blob} file
@@ -34,6 +36,7 @@ export class Pages {
     this.#size = size === 1 ? 1 << 16 : size;
     this.#count = Math.floor(file.size / this.#size);
     this.usable = this.#size - view.getUint8(20);
+    this.mayHaveLog = view.getUint8(19) === 2;
     this.encoding = ENCODINGS[view.getUint32(56)] || 'utf-8'; // (0 in a database without a text)
     const isPower = this.#size >= 512 && (this.#size & (this.#size - 1)) === 0;
     this.#kept = new Kept(Math.floor(KEPT / this.#size));

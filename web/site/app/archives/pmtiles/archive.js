@@ -21,6 +21,7 @@ const MOST_READ = 64; // leaf directories for one question
 
 /** @implements {Archive} */
 export class Pmtiles {
+  note = '';
   #file;
   #header;
   #root;
