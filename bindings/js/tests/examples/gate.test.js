@@ -62,6 +62,15 @@ test('the name of a packing may have capitals, and one that is unknown is refuse
   for (const name of ['zstd', 'constructor', 'gzip, gzip']) assert.equal((await by(name)).statusCode, 500, name);
 });
 
+test('what is sent in place of a tile has its own length', async () => {
+  /** @type {any} */
+  const mending = { mend: async () => ({ outcome: 'mended', tile: Buffer.from('mended'), changed: [{}], fault: null }) };
+  const handle = (/** @type {http.ServerResponse} */ it) => it.writeHead(200, { ...TILE, 'Content-Length': 4, ETag: '"1"' }).end('tile');
+  const mended = await answered(mending, handle, { mend: true }), refused = await answered(FAULTY, handle);
+  assert.deepEqual([mended.statusCode, mended.headers['content-length'], mended.length, mended.headers.etag], [200, '6', 6, undefined]);
+  assert.deepEqual([refused.statusCode, refused.headers['content-length'], refused.length], [500, '0', 0]);
+});
+
 test('a report that fails is told, and the answer is sent', async (context) => {
   const told = mock.method(console, 'error', () => {});
   context.after(() => told.mock.restore());
