@@ -1,6 +1,6 @@
 /** A response of node:http whose body is kept back, where it is a tile. */
 
-const TILE_TYPES = /^application\/(vnd\.mapbox-vector-tile|x-protobuf)\b/i;
+const TILE_TYPES = /^application\/(vnd\.mapbox-vector-tile|(x-)?protobuf)\b/i;
 const HELD = ['writeHead', 'flushHeaders', 'write', 'end'];
 
 export class Held {

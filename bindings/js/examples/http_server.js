@@ -9,7 +9,7 @@ const [folder, port = '0', mend] = process.argv.slice(2);
 const gate = tileGate(await loadPool(), { mend: mend === 'mend', report: (it) => console.log(JSON.stringify(it)) });
 
 function handle(asked, answer) {
-  const [, name] = /^\/([\w-]+\.mvt(?:\.gz)?)$/.exec(asked.url) ?? [];
+  const [, name] = /^\/((?:[\w-]+\/)*[\w-]+\.mvt(?:\.gz)?)(?:\?|$)/.exec(asked.url) ?? []; // (with no point in it there is no way up)
   if (!name) return answer.writeHead(404).end();
   const headers = { 'Content-Type': 'application/vnd.mapbox-vector-tile', ...(name.endsWith('.gz') ? { 'Content-Encoding': 'gzip' } : {}) };
   return createReadStream(join(folder, name))

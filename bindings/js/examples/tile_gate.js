@@ -75,7 +75,10 @@ async function verdict(pool, tile, body, packing, { profile, mend, drop, millise
 }
 
 function send(held, answer, { status, outcome, fault, body, changed }) {
-  if (outcome !== 'valid') for (const name of ['etag', 'last-modified', 'content-length']) answer.removeHeader(name);
+  if (outcome !== 'valid') {
+    for (const name of ['etag', 'last-modified']) answer.removeHeader(name);
+    if (answer.hasHeader('content-length')) answer.setHeader('Content-Length', body?.length ?? 0);
+  }
   if (outcome === 'mended') answer.setHeader('X-Tile-Mended', String(changed.length));
   if (body === null) {
     for (const name of ['content-type', 'content-encoding']) answer.removeHeader(name);

@@ -148,6 +148,15 @@ export type Advice =
 
 export type Advised = { advice: Advice[]; fault: null } | { advice: null; fault: WireFault };
 
+/** A format of files that are often taken for tiles. */
+export interface OtherFormat {
+  /** gzip, zlib, zstd, sqlite, pmtiles, png or json. */
+  name: string;
+  title: string;
+  sentence: string;
+  remedy: string;
+}
+
 /** A fault or an advice in plain words. */
 export interface Explanation {
   title: string;
@@ -158,5 +167,5 @@ export interface Explanation {
   cause: string;
   remedy: string;
   /** What the bytes are, where they are no tile and that is known. */
-  format: { title: string; sentence: string; remedy: string } | null;
+  format: OtherFormat | null;
 }

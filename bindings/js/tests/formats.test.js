@@ -16,8 +16,7 @@ const WIRE_FAULT = { code: 104, at: 0, field: 3, scope: 'tile' };
  * @param {{code: number}} fault
  */
 function nameOf(content, fault = WIRE_FAULT) {
-  const found = formatInWords(formats, fault, typeof content === 'string' ? new TextEncoder().encode(content) : content);
-  return Object.keys(formats).find((name) => formats[name] === found) ?? null;
+  return formatInWords(formats, fault, typeof content === 'string' ? new TextEncoder().encode(content) : content)?.name ?? null;
 }
 
 for (const [name, content] of /** @type {[string, Uint8Array|string][]} */ ([
@@ -28,6 +27,12 @@ for (const [name, content] of /** @type {[string, Uint8Array|string][]} */ ([
 ])) {
   test(`bytes of ${name} are known by their beginning: ${JSON.stringify(String(content)).slice(0, 24)}`, () => assert.equal(nameOf(content), name));
 }
+
+test('a format has its words', () => {
+  const { begins, ...words } = formats.sqlite;
+  assert.deepEqual(formatInWords(formats, WIRE_FAULT, new TextEncoder().encode('SQLite format 3\0')), { name: 'sqlite', ...words });
+  assert.ok(begins);
+});
 
 test('other bytes have no format', () => {
   for (const content of ['', ' ', 'tile', '<html>', 'SQLite format 3', Uint8Array.of(0x1f), Uint8Array.of(0x28, 0xb5, 0x2f)]) assert.equal(nameOf(content), null);

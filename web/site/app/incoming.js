@@ -19,6 +19,7 @@ import { byId } from './tools/dom.js';
 
 // (so it is in Chromium)
 const NO_FOLDER = "a page that was opened from a disk can't read a folder that is dropped; use 'Choose a folder'";
+const UNREAD_FOLDER = "the browser can't read a part of it; use 'Choose a folder'";
 const NO_LINK = 'it is no link with a tile, which stands after #tile=, nor a tile in hexadecimal or base64';
 
 /** @param {Receiver} receiver */
@@ -32,13 +33,21 @@ export function receiveFiles(receiver) {
   }
   receiveDrops(receiver);
   document.addEventListener('paste', (event) => {
-    if (event.target instanceof HTMLTextAreaElement || event.target instanceof HTMLInputElement || !event.clipboardData) return;
+    if (takesText(event.target) || !event.clipboardData) return;
     const text = event.clipboardData.getData('text/plain'), hasFiles = [...event.clipboardData.items].some(({ kind }) => kind === 'file');
     if (text && receiveText(receiver, text)) return;
     // (some systems put the names of copied files beside them as a text, and spreadsheets a picture beside a text)
     if (text && !hasFiles) receiver.refuse(new Unreadable(NO_LINK), 'pasted text');
     else takeTransfer(receiver, event.clipboardData);
   });
+}
+
+/**
+ * Whether what is pasted goes into an element. (In Chromium radios and choosers of files are asked too, which may have the focus.)
+ * @param {EventTarget|null} element
+ */
+function takesText(element) {
+  return element instanceof HTMLTextAreaElement || (element instanceof HTMLInputElement && ['text', 'search'].includes(element.type));
 }
 
 /**
@@ -77,7 +86,8 @@ function receiveDrops(receiver) {
  * @param {DataTransfer} transfer
  */
 function takeTransfer(receiver, transfer) {
-  gatherDropped(transfer).then(receiver.take, () => receiver.refuse(new Unreadable(NO_FOLDER), 'dropped folder'));
+  const reason = location.protocol === 'file:' ? NO_FOLDER : UNREAD_FOLDER;
+  gatherDropped(transfer).then(receiver.take, () => receiver.refuse(new Unreadable(reason), 'dropped folder'));
 }
 
 /** @param {Receiver} receiver */

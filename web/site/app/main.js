@@ -51,6 +51,7 @@ class Page {
   }
 
   async start() {
+    byId('idle', HTMLElement).hidden = true; // (it says that no script runs)
     this.#connectControls();
     this.#connectReceiver();
     try {

@@ -13,7 +13,7 @@ const QUICK_FAULT = '{"code":201,"layer":1}';
 const FAULTY = 1, GREEDY = 2;
 
 /** Bytes whose second one is this are of another format. */
-const PICTURE = 8, FORMAT = { title: 'Picture', sentence: 'It is a picture.', remedy: 'hand over a tile.' };
+const PICTURE = 8, FORMAT = { name: 'picture', title: 'Picture', sentence: 'It is a picture.', remedy: 'hand over a tile.' };
 
 /** The checker doesn't confirm the fault of bytes whose second one is this. */
 const DOUBTED = 9;

@@ -52,6 +52,8 @@ test('where a feature is after those before it were left out', () => {
 test('names of mended files', () => {
   assert.deepEqual(['a.mvt', 'a/b.mvt.gz', '14-5-3.pbf', 'tile', '', 'tile of the link', '.mvt'].map(mendedName),
     ['a.mended.mvt', 'b.mended.mvt.gz', '14-5-3.mended.pbf', 'tile.mended.mvt', 'tile.mended.mvt', 'tile of the link.mended.mvt', 'tile.mended.mvt']);
+  assert.deepEqual(['14.8802.5373.pbf', '14.8802.5373', '14.8802.5373.mvt.gz', 'a.b/v1.2.MVT'].map(mendedName),
+    ['14.8802.5373.mended.pbf', '14.8802.5373.mended.mvt', '14.8802.5373.mended.mvt.gz', 'v1.2.mended.MVT']);
 });
 
 test('a tile of an archive as a file', () => {

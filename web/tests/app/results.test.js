@@ -4,6 +4,7 @@ import { readFileSync } from 'node:fs';
 import { test } from 'node:test';
 import { SAMPLES, TOP, YES, sample } from '../../../bindings/js/tests/samples.js';
 import { feature, field, tileOf } from '../../../bindings/js/tests/wire.js';
+import { explainFormat } from '../../../bindings/js/src/words/explain.js';
 import { newEntry } from '../../site/app/files/checks.js';
 import { aboutOf, pointOf } from '../../site/app/results/about.js';
 import { addressOf, boxOn, positionOn } from '../../site/app/results/address.js';
@@ -61,6 +62,8 @@ test('what a fault is about', () => {
   const id = field(2, [0x08, ...Array(9).fill(0xff), 1, 0x18, 1, ...field(4, [10, 2, 2])]);
   const other = new Uint8Array(field(3, [0x78, 2, ...field(1, [0xc3, 0x9f]), 0x28, 0x80, 4, ...id]));
   assert.deepEqual(aboutOf({ code: 401, layer: 0, feature: 0, index: 0 }, other), { layer: 'ß', featureId: '18446744073709551615', extent: 512 });
+  const marked = new Uint8Array(field(3, [0x78, 2, ...field(1, [0xef, 0xbb, 0xbf, 0x61])]));
+  assert.equal(aboutOf({ code: 201, layer: 0 }, marked).layer, '\ufeffa');
   assert.deepEqual(aboutOf({ code: 202, first: 0, second: 1 }, tile), { layer: 'a', featureId: null, extent: 4096 });
   assert.deepEqual(aboutOf({ code: 105, at: 0, field: 3, scope: 'tile' }, Uint8Array.of(0x1a, 9)), { layer: null, featureId: null, extent: 4096 });
   assert.deepEqual(aboutOf({ code: 504, layer: 7, feature: 0 }, tile), { layer: null, featureId: null, extent: 4096 });
@@ -108,6 +111,13 @@ test('results as lines of JSON', () => {
   assert.deepEqual([one.file, one.fault], ['a.mvt', entries[0].fault]);
   assert.ok(one.sentence.startsWith('In the tile'));
   assert.deepEqual(others, [{ file: 'b.mvt', valid: true }, { file: 'c', error: 'no' }]);
+});
+
+test('a line of JSON has the name of another format, as mvtgate-check writes it', () => {
+  const entry = entryOf('a.mvt', 'truncated'), format = explainFormat({ code: 104 }, Uint8Array.of(0x1f, 0x8b));
+  const { sentence, ...others } = JSON.parse(jsonOf([{ ...entry, format }]));
+  assert.deepEqual(others, { file: 'a.mvt', fault: entry.fault, format: 'gzip' });
+  assert.ok(!sentence.includes(format?.sentence)); // (it has a key of its own)
 });
 
 test('results of a tile of an archive name the archive and the tile, as mvtgate-check does', () => {

@@ -45,7 +45,7 @@ test('more files than an archive can have', () => {
 
 test('names in an archive are relative, and each is another one', () => {
   const names = new Set();
-  const given = ['a.mvt', 'a.mvt', 'a.mvt', '/b/a.mvt', '../b/a.mvt', 'c\\d.mvt.gz', './c/d.mvt.gz', '', '..', 'e', 'e'];
+  const given = ['a.mvt', 'a.mvt', 'a.mvt', '/b/a.mvt', '../b/a.mvt', 'c\\d.mvt.gz', './c/d.mvt.gz', '', '..', 'e', 'e', 'v1.2/3.4.pbf', 'v1.2/3.4.pbf'];
   assert.deepEqual(given.map((it) => nameAmong(names, it)),
-    ['a.mvt', 'a (2).mvt', 'a (3).mvt', 'b/a.mvt', '_/b/a.mvt', 'c/d.mvt.gz', 'c/d (2).mvt.gz', 'tile.mvt', '_', 'e', 'e (2)']);
+    ['a.mvt', 'a (2).mvt', 'a (3).mvt', 'b/a.mvt', '_/b/a.mvt', 'c/d.mvt.gz', 'c/d (2).mvt.gz', 'tile.mvt', '_', 'e', 'e (2)', 'v1.2/3.4.pbf', 'v1.2/3.4 (2).pbf']);
 });

@@ -51,6 +51,13 @@ test('a tile in the middle has as many on each side', async () => {
   assert.deepEqual(await (await opened('plain.mbtiles')).middle(10), { column: 534, row: 353 });
 });
 
+test('a database that may have a log beside it says so', async () => {
+  const bytes = bytesOf('plain.mbtiles');
+  assert.equal((await opened('plain.mbtiles', bytes)).note, '');
+  bytes.fill(2, 18, 20); // (the versions of the format for writing and reading: 2 for a log)
+  assert.match((await opened('plain.mbtiles', bytes)).note, /whose name ends with -wal/);
+});
+
 test('what has no tiles, or no index for them, is told', async () => {
   await assert.rejects(opened('no_index.mbtiles'), /^Error: it has no index for its tiles; make one: CREATE UNIQUE INDEX/);
   await assert.rejects(opened('backwards.mbtiles'), /it has no index/);
@@ -62,7 +69,7 @@ test('what has no tiles, or no index for them, is told', async () => {
 /** @type {[what: string, at: number, byte: number, said: RegExp][]} bytes of the header */
 const OTHERS = [
   ['another version', 7, 2, /version 2, and only version 3/], ['directories by brotli', 97, 3, /its directories are packed by brotli/],
-  ['tiles by Zstandard', 98, 4, /its tiles are packed by Zstandard/], ['pictures', 99, 2, /but PNG pictures/],
+  ['tiles by Zstandard', 98, 4, /its tiles are packed by Zstandard/], ['pictures', 99, 2, /but PNG pictures/], ['MapLibre tiles', 99, 6, /no Mapbox vector tiles, but MapLibre tiles/],
   ['a section beyond the end', 62, 1, /is beyond its end/], ['a section that no file has', 63, 255, /is beyond its end/],
 ];
 for (const [what, at, byte, said] of OTHERS) {
@@ -110,6 +117,22 @@ test('trees of a database that lead round in circles come to an end', async () =
   await assert.rejects(opened('many.mbtiles', circling(2)), /a tree of it leads nowhere/);
   const archive = await opened('many.mbtiles', circling(5));
   await assert.rejects(archive.tile(TILES['many.mbtiles'][0].place), /a tree of it leads nowhere/);
+});
+
+test('what could not be read is read again when it is asked for again', async () => {
+  for (const name of ['leaves.pmtiles', 'many.mbtiles']) {
+    let isThere = true;
+    const whole = new Blob([bytesOf(name)]), { place } = TILES[name][TILES[name].length >> 1];
+    const slice = (/** @type {number} */ begin, /** @type {number} */ end) => {
+      const part = whole.slice(begin, end);
+      return { arrayBuffer: () => (isThere ? part.arrayBuffer() : Promise.reject(new Error('the disk is gone'))) };
+    };
+    const archive = await openArchive(name.endsWith('.pmtiles') ? 'pmtiles' : 'mbtiles', /** @type {any} */ ({ size: whole.size, slice }));
+    isThere = false;
+    await assert.rejects(archive.present([place]), /the browser could not read the file/);
+    isThere = true;
+    assert.deepEqual(await archive.present([place]), [place], name);
+  }
 });
 
 test('archives are told from tiles by their bytes', async () => {

@@ -189,3 +189,20 @@ def test_motion(chromium: Chromium, page: Page, motion: str) -> None:
     moving = page.script("return [...document.querySelectorAll('*')].filter((it) => getComputedStyle(it).transitionDuration !== '0s').length")
     chromium.tools("Emulation.setEmulatedMedia", features=[])
     assert (moving == 0) == (motion == "reduce")
+
+
+def test_forced_colours(chromium: Chromium, page: Page) -> None:
+    """Where the user's system has its own colours, and no grounds, lines say what is chosen."""
+    page.choose(path_of("crossing_edges"), path_of("hole_in_hole"))
+    page.script("document.getElementById('fields').open = true")
+    page.until("return document.querySelector('#bytes .byte.here')")
+    page.click("#features [role=option]")
+    chosen = ["#list [aria-selected=true]", "#features [aria-selected=true]", "#fields-tree [aria-selected=true] > .field-line", "#bytes .byte.here"]
+    text = "return arguments[0].map((it) => getComputedStyle(document.querySelector(it)).outlineStyle)"
+    kinds = "return ['of-key', 'of-length', 'of-content'].map((it) => getComputedStyle(document.querySelector(`#bytes .${it}`)).borderBottomStyle)"
+    assert page.script(text, chosen) == ["none"] * 4
+    chromium.tools("Emulation.setEmulatedMedia", features=[{"name": "forced-colors", "value": "active"}])
+    outlines, borders = page.script(text, chosen), page.script(kinds)
+    chromium.tools("Emulation.setEmulatedMedia", features=[])
+    assert outlines == ["solid"] * 4
+    assert borders == ["dotted", "dashed", "solid"]

@@ -176,6 +176,8 @@ def test_an_archive_among_files(page: Page, folder: pathlib.Path) -> None:
     assert page.text("archive-note") == "1 other archive came with it. One is open at a time."
     page.click("#archive-close")
     assert not page.is_visible("archive") and page.is_visible("files")
+    # (the button that had the focus is gone)
+    assert (page.script("return document.activeElement.id"), page.text("status")) == ("file", "The archive is closed.")
 
 
 def test_archives_far_larger_than_the_memory(page_in_each: Page, tmp_path: pathlib.Path) -> None:

@@ -139,6 +139,9 @@ def test_many_parts(page: Page, tmp_path: pathlib.Path) -> None:
     assert page.texts("#fields-tree .more > .field-line") == ["19,902 after"]
     page.click("#fields-tree .more > .field-line")
     assert page.texts("#fields-tree .more > .field-line") == ["100 before", "19,802 after"] and chosen(page) == "feature 98"
+    # (a screen reader says which of all it is: version and name come before the features)
+    place = "const it = document.activeElement; return ['posinset', 'setsize'].map((name) => it.getAttribute(`aria-${name}`))"
+    assert page.script(place) == ["101", "20002"]
     page.click("#bytes-after")
     assert page.script("return document.querySelector('#bytes .byte').dataset.place") > "0"
     page.script("document.getElementById('search').value = '12345'; document.getElementById('search').dispatchEvent(new Event('input'))")

@@ -115,8 +115,11 @@ def test_link_without_a_tile(chromium: Chromium) -> None:
     assert page.is_visible("status")
 
 
-def test_paste_of_a_link(page_in_each: Page) -> None:
+@pytest.mark.parametrize("focus", ["verdict", "polygon", "file"])
+def test_paste_of_a_link(page_in_each: Page, focus: str) -> None:
+    """Also where a control has the focus that takes no text."""
     page = page_in_each
+    page.script("document.getElementById(arguments[0]).focus()", focus)
     page.browser.paste("https://tiles.example/" + link_of(CROSSING.read_bytes()))
     page.until_shown("pasted link")
     assert page.fault in accepted("crossing_edges", "polygon")

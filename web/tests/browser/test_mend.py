@@ -159,6 +159,16 @@ def test_another_tile_and_another_profile(page: Page) -> None:
     page.until("return !document.getElementById('mend').checkVisibility()")
 
 
+def test_a_tile_that_is_left_while_it_is_mended(page: Page) -> None:
+    """The panel of the next tile isn't busy: screen readers would wait for it."""
+    page.choose(path_of("crossing_edges"), path_of("hole_in_hole"))
+    page.script("document.getElementById('mend-tile').click(); document.querySelector('#list li:last-child').click()")
+    page.until_shown("hole_in_hole.mvt")
+    assert page.is_visible("mend") and page.text("mend-summary") == ""
+    assert page.script("return document.getElementById('mend').getAttribute('aria-busy')") == "false"
+    assert mended(page).startswith(VALID)
+
+
 def test_a_large_tile(page: Page, tmp_path: pathlib.Path) -> None:
     """Its content isn't listed, and the features that are mended are drawn all the same."""
     path = written(tmp_path, "large.mvt", tile_of_size(5 << 20) + layer("b", [CROSSING, point(1, 1), CROSSING]))

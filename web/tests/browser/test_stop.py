@@ -1,15 +1,17 @@
 """A check that takes long can be stopped; memory that is refused is a sentence, and so is a browser that can't run the gate."""
 from __future__ import annotations
 
+import http.server
 import pathlib
 import subprocess
 import sys
-from typing import Iterator
+import threading
+from typing import Any, Iterator
 
 import pytest
 
 from browsers import Browser, Chromium
-from conftest import FILE_ADDRESS, TOP, opened
+from conftest import FILE_ADDRESS, OUT, TOP, opened
 from page import Page
 from samples import accepted, path_of
 from wire import tile_of_size
@@ -82,6 +84,33 @@ def test_memory_refused(limited_chromium: Chromium, tmp_path: pathlib.Path) -> N
     page.until_shown("crossing_edges.mvt")
     assert page.fault in accepted("crossing_edges", "polygon")
     assert limited_chromium.complaints() == []
+
+
+class WithPolicy(http.server.BaseHTTPRequestHandler):
+    """The page from a server that refuses scripts within pages."""
+
+    def do_GET(self) -> None:
+        self.send_response(200)
+        for name, value in (("Content-Type", "text/html"), ("Content-Security-Policy", "script-src 'self'")):
+            self.send_header(name, value)
+        self.end_headers()
+        self.wfile.write((OUT / "index.html").read_bytes())
+
+    def log_message(self, *_: Any) -> None:
+        pass
+
+
+def test_script_that_is_refused(browser: Browser) -> None:
+    """The page says after a while that its script doesn't run. Where it does, nothing is said of that."""
+    page = opened(browser, FILE_ADDRESS)
+    assert not page.is_visible("idle")
+    with http.server.ThreadingHTTPServer(("127.0.0.1", 0), WithPolicy) as server:
+        threading.Thread(target=server.serve_forever, daemon=True).start()
+        browser.open(f"http://127.0.0.1:{server.server_port}/")
+        page.until("return getComputedStyle(document.getElementById('idle')).visibility === 'visible'", seconds=20)
+        assert page.is_visible("idle") and page.script("return document.body.dataset.state") == "loading"
+        server.shutdown()
+    browser.complaints()
 
 
 # (it knows no WebAssembly)

@@ -1,6 +1,7 @@
 // Texts of positions, rings and polygons.
 
 import { vertexCount } from '../tile/rings.js';
+import { textOfBytes } from '../tile/text.js';
 import { isolated } from '../words/isolated.js';
 
 /** @typedef {import('./kinds/polygons.js').Feature} Feature */
@@ -73,13 +74,13 @@ export function ringList(rings) {
 }
 
 /**
- * A text, or its beginning where it is long.
+ * A text, or its beginning where it is long. No letter of two units of UTF-16 is halved.
  * @param {string} text
  * @param {number} most letters
  * @returns {string}
  */
 export function cut(text, most) {
-  return text.length > most ? `${text.slice(0, most - 1)}…` : text;
+  return text.length > most ? `${text.slice(0, most - 1).replace(/[\ud800-\udbff]$/, '')}…` : text;
 }
 
 /**
@@ -97,5 +98,5 @@ export function quotedName(name) {
  * @returns {string}
  */
 export function shortText(bytes) {
-  return isolated(JSON.stringify(cut(new TextDecoder().decode(bytes.subarray(0, 4 * LONGEST_TEXT)), LONGEST_TEXT)));
+  return isolated(JSON.stringify(cut(textOfBytes(bytes.subarray(0, 4 * LONGEST_TEXT)), LONGEST_TEXT)));
 }

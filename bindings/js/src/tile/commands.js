@@ -134,49 +134,58 @@ function isCoordinate(value) {
   return value >= -GREATEST_COORDINATE && value <= GREATEST_COORDINATE;
 }
 
+/** @typedef {'command'|'x'|'y'|'unread'} Meaning of a number: it can't be read where the walk had ended before it */
+/** @typedef {{due: number, isLost: boolean}} Walk how many parameters are due; whether a number was no command */
+
 /**
- * What each number of a list is, from the place `from` to before `to`: a command, a parameter of x or y, or a number that can't be read
- * as either since the walk had ended before it.
- * @typedef {{index: number, number: number, kind: 'command'|'x'|'y'|'unread', text: string}} Decoded
+ * What the next number of a walk is.
+ * @param {Walk} walk
+ * @returns {Meaning}
+ */
+export function meaningDue({ due, isLost }) {
+  if (isLost) return 'unread';
+  return due === 0 ? 'command' : due % 2 === 0 ? 'x' : 'y';
+}
+
+/**
+ * Goes past a number, without a look at what the geometry's type allows.
+ * @param {Walk} walk
+ * @param {number} number
+ */
+export function passNumber(walk, number) {
+  if (walk.due > 0) {
+    walk.due -= 1;
+    return;
+  }
+  const id = number % 8; // (and no `commandOf`, which makes an object: there may be many millions)
+  if (id === MOVE_TO || id === LINE_TO) walk.due = 2 * Math.floor(number / 8);
+  else if (id !== CLOSE_PATH) walk.isLost = true;
+}
+
+/**
+ * What each number of a list is, from the place `from` to before `to`.
+ * @typedef {{index: number, number: number, kind: Meaning, text: string}} Decoded
  * @param {ArrayLike<number>} numbers
  * @param {number} from
  * @param {number} to
  * @returns {Decoded[]}
  */
 export function decodeNumbers(numbers, from, to) {
-  const decoded = [];
-  const end = Math.min(to, numbers.length);
-  let index = 0;
-  let due = 0; // parameters that are due
-  let isLost = false;
-  for (; index < end; index += 1) {
-    const kind = isLost ? 'unread' : due === 0 ? 'command' : due % 2 === 0 ? 'x' : 'y';
-    if (index >= from) decoded.push(decodeNumber(index, numbers[index], kind));
-    if (kind === 'command') {
-      const { id, count, name } = commandOf(numbers[index]);
-      isLost = name === null;
-      due = id === CLOSE_PATH ? 0 : 2 * count;
-    } else due -= 1;
+  const decoded = [], end = Math.min(to, numbers.length), walk = { due: 0, isLost: false };
+  for (let index = 0; index < end; index += 1) {
+    const number = numbers[index], kind = meaningDue(walk);
+    if (index >= from) decoded.push({ index, number, kind, text: textOfNumber(number, kind) });
+    passNumber(walk, number);
   }
   return decoded;
 }
 
 /**
- * @param {number} index
  * @param {number} number
- * @param {Decoded['kind']} kind
- * @returns {Decoded}
- */
-function decodeNumber(index, number, kind) {
-  return { index, number, kind, text: textOf(number, kind) };
-}
-
-/**
- * @param {number} number
- * @param {Decoded['kind']} kind
+ * @param {Meaning} kind
  * @returns {string}
  */
-function textOf(number, kind) {
+export function textOfNumber(number, kind) {
   if (kind === 'unread') return '';
   if (kind !== 'command') return `${kind === 'x' ? 'dX' : 'dY'} ${parameterOf(number)}`;
   const { id, count, name } = commandOf(number);

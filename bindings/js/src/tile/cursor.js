@@ -12,9 +12,10 @@ export class Cursor {
   constructor(bytes, { begin, end }) {
     this.bytes = bytes;
     this.end = end;
-    /** Where the field begins that was read last, and where the next one would. */
+    /** Where the field begins that was read last, where its payload does, and where the next field would. */
     this.at = begin;
     this.next = begin;
+    this.payload = begin;
     this.number = 0;
     this.wireType = 0;
   }
@@ -27,7 +28,19 @@ export class Cursor {
     this.at = begin;
     this.number = Math.floor(key / 8);
     this.wireType = key % 8;
+    this.payload = this.next;
     return this.#skipPayload() || this.#isAt(begin);
+  }
+
+  /**
+   * Reads a varint in place of a field, as a packed list has them. Above 2^53 it isn't exact.
+   * @returns {number} -1 where none is there
+   */
+  readNumber() {
+    this.at = this.next;
+    const number = this.#varint(this.at);
+    if (number < 0) this.next = this.at;
+    return number;
   }
 
   /**
@@ -44,6 +57,7 @@ export class Cursor {
     if (this.wireType === DELIMITED) {
       const length = this.#varint(this.next);
       if (length < 0) return false;
+      this.payload = this.next;
       this.next += length;
     } else if (this.wireType === EIGHT_BYTES) this.next += 8;
     else if (this.wireType === FOUR_BYTES) this.next += 4;

@@ -165,15 +165,33 @@ export function fieldsBefore(bytes, message, place, most) {
 }
 
 /**
- * The numbers of a packed list that begin before a place, the last `most` of them, and how many there are in all. They are varints, as
- * they are before the place of a fault.
+ * How many numbers of a list are in the fields of its message before one of them. They are varints, as they are before the place of a
+ * fault.
  * @param {Uint8Array} bytes
+ * @param {Message} message
+ * @param {Field} list
+ */
+function numbersBefore(bytes, message, list) {
+  const cursor = new Cursor(bytes, message);
+  let count = 0;
+  while (cursor.next < list.at && cursor.read()) {
+    if (cursor.number !== list.number) continue;
+    for (let at = cursor.payload; at < cursor.next; at += 1) if (bytes[at] < 128) count += 1; // (the last byte of each)
+  }
+  return count;
+}
+
+/**
+ * The numbers of a packed list that begin before a place, the last `most` of them with their indices, and how many of the list come
+ * before the place: the list may begin in earlier fields of the message.
+ * @param {Uint8Array} bytes
+ * @param {Message} message
  * @param {Field} field
  * @param {number} place
  * @param {number} most
  * @returns {{numbers: {at: number, end: number, value: bigint, index: number}[], count: number}}
  */
-export function packedNumbersBefore(bytes, field, place, most) {
+export function packedNumbersBefore(bytes, message, field, place, most) {
   const last = new Float64Array(most); // where the last numbers begin, by their indices modulo `most`
   let count = 0, begin = field.payload;
   for (let at = field.payload; at < Math.min(place, field.end); at += 1) {
@@ -182,11 +200,11 @@ export function packedNumbersBefore(bytes, field, place, most) {
     count += 1;
     begin = at + 1;
   }
-  const first = Math.max(0, count - most);
+  const first = Math.max(0, count - most), earlier = numbersBefore(bytes, message, field);
   const numbers = Array.from({ length: count - first }, (_, k) => {
-    const index = first + k, at = last[index % most];
+    const at = last[(first + k) % most];
     const { value, end } = readVarint(bytes, at, field.end) ?? { value: 0n, end: at };
-    return { at, end, value, index };
+    return { at, end, value, index: earlier + first + k };
   });
-  return { numbers, count };
+  return { numbers, count: earlier + count };
 }

@@ -32,23 +32,30 @@ export function valueText(value) {
   if (!value) return '';
   const [kind, content] = Object.entries(value)[0] ?? ['', ''];
   if (kind === 'string') return JSON.stringify(content);
-  if (kind === 'float' || kind === 'double') return `${kind} ${floatOfHex(String(content))}`;
+  if (kind === 'float' || kind === 'double') return `${kind} ${floatText(bytesOfHex(String(content)))}`;
   return `${kind} ${String(content)}`;
 }
 
+/** @param {string} hex */
+function bytesOfHex(hex) {
+  return Uint8Array.from(hex.match(/../g) ?? [], (pair) => parseInt(pair, 16));
+}
+
 /**
- * The number whose bytes, least significant first, are written in hexadecimal; that of four bytes with as few digits as tell it from
- * the others.
- * @param {string} hex
- * @returns {number}
+ * A number of IEEE 754, that of four bytes with as few digits as tell it from the others.
+ * @param {Uint8Array} bytes four or eight, least significant first
+ * @returns {string}
  */
-function floatOfHex(hex) {
-  const bytes = Uint8Array.from(hex.match(/../g) ?? [], (pair) => parseInt(pair, 16));
-  const view = new DataView(bytes.buffer);
-  if (bytes.length === 8) return view.getFloat64(0, true);
-  const value = view.getFloat32(0, true);
-  const shortest = [6, 7, 8].map((digits) => Number(value.toPrecision(digits))).find((short) => Math.fround(short) === value);
-  return shortest ?? value;
+export function floatText(bytes) {
+  const view = new DataView(bytes.buffer, bytes.byteOffset, bytes.length);
+  const value = bytes.length === 8 ? view.getFloat64(0, true) : view.getFloat32(0, true);
+  if (Object.is(value, -0)) return '-0';
+  return String(bytes.length === 8 ? value : shortestOf(value));
+}
+
+/** @param {number} float */
+function shortestOf(float) {
+  return [6, 7, 8, 9].map((digits) => Number(float.toPrecision(digits))).find((short) => Math.fround(short) === float) ?? float;
 }
 
 /** @type {[one: string, many: string][]} by the geometry type */

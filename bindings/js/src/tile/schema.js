@@ -31,6 +31,7 @@ const RULES = {
   },
 };
 
+const VARINT = 0;
 const WIRE_TYPES = ['varint', 'eight bytes', 'length and bytes', 'group', 'end of group', 'four bytes', 'no wire type', 'no wire type'];
 
 /**
@@ -40,6 +41,15 @@ const WIRE_TYPES = ['varint', 'eight bytes', 'length and bytes', 'group', 'end o
  */
 export function ruleOf(message, number) {
   return RULES[message][number] ?? null;
+}
+
+/**
+ * The wire types that a field may have. A list of numbers has two: packed, and a single number (Protocol Buffers encoding).
+ * @param {FieldRule} rule
+ * @returns {number[]}
+ */
+export function ownWireTypes({ wireType, kind }) {
+  return kind === 'numbers' ? [wireType, VARINT] : [wireType];
 }
 
 /**

@@ -1,8 +1,9 @@
 /**
  * Other formats that are taken for tiles, by how their bytes begin. bindings/README.md has the rule.
  *
- * @typedef {{title: string, sentence: string, remedy: string}} Format
- * @typedef {{[name: string]: Format & {begins: string[], after?: string[]}}} Formats
+ * @typedef {{title: string, sentence: string, remedy: string}} Words
+ * @typedef {{name: string} & Words} Format
+ * @typedef {{[name: string]: Words & {begins: string[], after?: string[]}}} Formats
  */
 
 const HEAD = 1024; // bytes that are looked at
@@ -17,7 +18,8 @@ const LAST_WIRE_FAULT = 111;
 export function formatInWords(formats, fault, tile) {
   if (fault.code > LAST_WIRE_FAULT) return null;
   const head = Array.from(tile.subarray(0, HEAD), (byte) => byte.toString(16).padStart(2, '0')).join('');
-  return Object.values(formats).find(({ begins, after }) => beginsWith(head, begins, after ?? [])) ?? null;
+  const [name, found] = Object.entries(formats).find(([, { begins, after }]) => beginsWith(head, begins, after ?? [])) ?? [];
+  return name && found ? { name, title: found.title, sentence: found.sentence, remedy: found.remedy } : null;
 }
 
 /**

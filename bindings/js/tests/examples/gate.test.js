@@ -49,11 +49,26 @@ test('a tile that is refused has the words of its own status', async () => {
   assert.deepEqual([statusCode, statusMessage, length], [500, 'Internal Server Error', 0]);
 });
 
+test('tiles are known by each of their types, and nothing else is', async () => {
+  const by = async (/** @type {string} */ type) => (await answered(FAULTY, (it) => it.writeHead(200, { 'Content-Type': type }).end('tile'))).statusCode;
+  for (const type of ['application/vnd.mapbox-vector-tile', 'application/x-protobuf', 'application/protobuf', 'Application/Protobuf; charset=utf-8']) assert.equal(await by(type), 500, type);
+  for (const type of ['application/json', 'application/x-protobuffer', 'image/png']) assert.equal(await by(type), 200, type);
+});
+
 test('the name of a packing may have capitals, and one that is unknown is refused', async () => {
   const packed = gzipSync('tile'), by = (/** @type {string} */ name) => answered(VALID, (it) => it.writeHead(200, { ...TILE, 'Content-Encoding': name }).end(packed));
   const { statusCode, headers, length } = await by('GZIP');
   assert.deepEqual([statusCode, headers['content-encoding'], length], [200, 'GZIP', packed.length]);
   for (const name of ['zstd', 'constructor', 'gzip, gzip']) assert.equal((await by(name)).statusCode, 500, name);
+});
+
+test('what is sent in place of a tile has its own length', async () => {
+  /** @type {any} */
+  const mending = { mend: async () => ({ outcome: 'mended', tile: Buffer.from('mended'), changed: [{}], fault: null }) };
+  const handle = (/** @type {http.ServerResponse} */ it) => it.writeHead(200, { ...TILE, 'Content-Length': 4, ETag: '"1"' }).end('tile');
+  const mended = await answered(mending, handle, { mend: true }), refused = await answered(FAULTY, handle);
+  assert.deepEqual([mended.statusCode, mended.headers['content-length'], mended.length, mended.headers.etag], [200, '6', 6, undefined]);
+  assert.deepEqual([refused.statusCode, refused.headers['content-length'], refused.length], [500, '0', 0]);
 });
 
 test('a report that fails is told, and the answer is sent', async (context) => {

@@ -1,7 +1,7 @@
 // The servers of examples/, each a process of its own over the installed package.
 import assert from 'node:assert/strict';
 import { spawn } from 'node:child_process';
-import { existsSync, writeFileSync } from 'node:fs';
+import { existsSync, mkdirSync, writeFileSync } from 'node:fs';
 import http from 'node:http';
 import { after, test } from 'node:test';
 import { gunzipSync, gzipSync } from 'node:zlib';
@@ -20,6 +20,8 @@ for (const name of TILES) {
   writeFileSync(`${tiles}/${name}.mvt`, sample(name));
   writeFileSync(`${tiles}/${name}.mvt.gz`, gzipSync(sample(name)));
 }
+mkdirSync(`${tiles}/14/8802`, { recursive: true });
+writeFileSync(`${tiles}/14/8802/5373.mvt`, sample('point'));
 writeFileSync(`${tiles}/damaged.mvt.gz`, gzipSync(sample('point')).subarray(0, 20));
 writeFileSync(`${tiles}/huge.mvt.gz`, gzipSync(new Uint8Array(17 << 20)));
 
@@ -101,6 +103,8 @@ for (const script of ['http_server.js', 'express_server.js']) {
     assert.equal((await get(`${address}point.mvt`, { method: 'HEAD' })).status, 200);
     for (const name of ['damaged', 'huge']) assert.equal((await get(`${address}${name}.mvt.gz`)).status, 500);
     assert.equal((await get(`${address}missing.mvt`)).status, 404);
+    assert.deepEqual((await get(`${address}14/8802/5373.mvt?v=2`)).body, Buffer.from(sample('point')));
+    for (const name of ['..%2fpoint.mvt', '14/../point.mvt/', '.mvt']) assert.ok([403, 404].includes((await get(address + name)).status ?? 0), name);
     const all = await Promise.all(Array.from({ length: 60 }, (_, at) => get(`${address}${TILES[at % 3]}.mvt`)));
     assert.deepEqual(all.map(({ status }) => status), all.map((_, at) => (at % 3 ? 500 : 200)));
   });

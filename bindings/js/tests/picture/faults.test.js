@@ -3,6 +3,7 @@ import { test } from 'node:test';
 import { pictureOfFault } from '../../src/picture/index.js';
 import { elementsOf, recordOf } from './tools.js';
 import { SAMPLES, YES, sample } from '../samples.js';
+import { field, tileOf } from '../wire.js';
 
 /** @typedef {Record<string, any>} Fault */
 /** @typedef {Record<string, string|number>} Attributes */
@@ -275,6 +276,30 @@ test('bytes have the fields that were read up to the fault, and the message', ()
   assert.equal(text('byte 11'), 'field 4 (geometry), length and bytes: 3 bytes');
   assert.equal(text('byte 14'), 'number 1 of geometry: 50');
   assert.deepEqual(elements.byte.map((it) => it['data-offset']), Array.from({ length: 15 }, (_, k) => k));
+});
+
+/**
+ * What the picture says of a fault in the only feature of a tile, at its byte.
+ * @param {number[]} feature its fields
+ * @param {{code: number, at: number, field: number}} fault its place from the feature's first byte on
+ */
+function saidInFeature(feature, { code, at, field: number }) {
+  const tile = tileOf([field(2, feature)]), place = tile.length - feature.length + at;
+  const picture = pictureOfFault({ code, at: place, field: number, scope: 'feature', layer: 0, feature: 0 }, tile, null);
+  return picture?.places.find(({ name }) => name === `fault, byte ${place}`)?.text;
+}
+
+test('a list of numbers has two wire types of its own', () => {
+  for (const [number, name] of /** @type {[number, string][]} */ ([[2, 'tags'], [4, 'geometry']])) {
+    assert.equal(saidInFeature([number * 8 + 5, 1, 2, 3, 4, 0x18, 1], { code: 106, at: 0, field: number }),
+      `field ${number} (${name}) has wire type 5 (four bytes), and its own is 2 (length and bytes), or 0 (varint) for a single number`);
+  }
+  assert.equal(saidInFeature([0x1a, 1, 1], { code: 106, at: 0, field: 3 }), 'field 3 (type) has wire type 2 (length and bytes), and its own is 0 (varint)');
+});
+
+test('the numbers of a list are counted from its first field on', () => {
+  const earlier = [0x20, 9, ...field(4, [0x80, 1, 4]), 0x20, 10], late = field(4, [4, 0x80, 0x80, 0x80, 0x80, 0x10]);
+  assert.equal(saidInFeature([...earlier, ...late], { code: 111, at: earlier.length + 3, field: 4 }), 'number 5 of geometry is 4294967296, which is above 4294967295');
 });
 
 test('a list before the fault is one field', () => {

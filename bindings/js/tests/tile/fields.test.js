@@ -97,5 +97,15 @@ test('the numbers of a packed list before a place', () => {
   const message = messageOfFault(tile, /** @type {WireFault} */ ({ scope: 'feature', layer: 0, feature: 0 }));
   assert.ok(message);
   const [, list] = fieldsOf(tile, message);
-  assert.deepEqual(packedNumbersBefore(tile, list, 15, 10), { numbers: [{ at: 13, end: 14, value: 9n, index: 0 }, { at: 14, end: 15, value: 50n, index: 1 }], count: 2 });
+  assert.deepEqual(packedNumbersBefore(tile, message, list, 15, 10), { numbers: [{ at: 13, end: 14, value: 9n, index: 0 }, { at: 14, end: 15, value: 50n, index: 1 }], count: 2 });
+});
+
+test('the numbers of a packed list go on from its earlier fields', () => {
+  const tile = sample('no_step_in_three_fields');
+  const message = messageOfFault(tile, /** @type {WireFault} */ ({ scope: 'feature', layer: 0, feature: 0 }));
+  assert.ok(message);
+  const list = [...fieldsOf(tile, message)].pop();
+  assert.ok(list);
+  const { numbers, count } = packedNumbersBefore(tile, message, list, list.end, 2);
+  assert.deepEqual([numbers.map(({ value, index }) => [value, index]), count], [[[10n, 7], [15n, 8]], 9]);
 });

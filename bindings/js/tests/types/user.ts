@@ -12,7 +12,8 @@ export async function use(tile: Uint8Array): Promise<string> {
   const bytes: Uint8Array = mended.outcome === 'refused' ? tile : mended.tile;
   const pool: Pool = await loadPool({ size: 2 });
   const all: Fault[] = await pool.faults(bytes, { limit: 10, signal: new AbortController().signal, transfer: true });
-  return explain(all[0], tile).title + changes.length + gate.explain({ kind: 'no_layer' }).remedy + new OutOfMemory().message;
+  const { title, format } = explain(all[0], tile);
+  return title + (format?.name ?? '') + changes.length + gate.explain({ kind: 'no_layer' }).remedy + new OutOfMemory().message;
 }
 
 export async function misuse(gate: Gate, pool: Pool, tile: Uint8Array): Promise<void> {

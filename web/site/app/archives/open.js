@@ -11,6 +11,7 @@ import { Pmtiles } from './pmtiles/archive.js';
 /**
  * What an archive says of its tiles.
  * @typedef {object} Archive
+ * @property {string} note what its reader has to know; mostly empty
  * @property {() => Promise<number[]>} zooms that have tiles, in order
  * @property {(zoom: number) => Promise<{column: number, row: number}|null>} middle a tile in the middle of those of a zoom
  * @property {(places: Place[]) => Promise<Place[]>} present those of these places that have a tile

@@ -48,7 +48,7 @@ export class ArchivePanel {
     this.#onClick('archive-out', () => this.#step(-1));
     this.#onClick('archive-check', () => this.#pickAll());
     this.#onClick('archive-go', () => this.#go());
-    this.#onClick('archive-close', async () => this.close());
+    this.#onClick('archive-close', async () => this.#leave());
     for (const [identifier, [across, down]] of Object.entries(SIDES)) this.#onClick(identifier, () => this.#pan(across, down));
     this.#place.addEventListener('keydown', (event) => {
       if (event.key === 'Enter') this.#try(() => this.#go());
@@ -80,7 +80,7 @@ export class ArchivePanel {
     this.#opened = { archive, name, zooms, picks: new Picks(archive, name) };
     this.#section.hidden = false;
     byId('archive-name', HTMLElement).textContent = name;
-    byId('archive-note', HTMLElement).textContent = note;
+    byId('archive-note', HTMLElement).textContent = [note, archive.note].filter(Boolean).join(' ');
     this.#zoom.replaceChildren(...zooms.map((zoom) => element('option', { value: zoom }, String(zoom))));
     await this.#goToMiddle(zooms[0]);
     this.#grid.focus();
@@ -91,6 +91,13 @@ export class ArchivePanel {
     this.#opened = null;
     this.#section.hidden = true;
     this.#place.value = '';
+  }
+
+  /** Closes the archive on the user's wish. The button that had the focus is gone then. */
+  #leave() {
+    this.close();
+    byId('file', HTMLInputElement).focus();
+    this.#calls.tell('The archive is closed.');
   }
 
   /** Forgets which tiles were picked. */

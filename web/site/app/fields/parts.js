@@ -3,7 +3,8 @@
 
 import { Cursor } from '../../../../bindings/js/src/tile/cursor.js';
 import { beginField } from '../../../../bindings/js/src/tile/fields.js';
-import { ruleOf } from '../../../../bindings/js/src/tile/schema.js';
+import { ownWireTypes, ruleOf } from '../../../../bindings/js/src/tile/schema.js';
+import { Lists, goPast } from './lists.js';
 
 /** @typedef {import('../../../../bindings/js/src/tile/schema.js').MessageKind} MessageKind */
 /**
@@ -18,9 +19,11 @@ import { ruleOf } from '../../../../bindings/js/src/tile/schema.js';
  * @property {number} end
  * @property {number} number of the field, or of the field whose list it is in
  * @property {number} wireType
- * @property {number} ordinal among the fields with its number, or among the numbers of its list
+ * @property {boolean} isOwn whether the wire type is one that the field may have
+ * @property {number} ordinal among the fields with its number and its wire type
  * @property {MessageKind|null} message which its payload is
- * @property {boolean} isList whether its payload is a list of numbers
+ * @property {boolean} isList whether its payload is a packed list of numbers
+ * @property {import('./lists.js').Progress|null} progress of its list before it, where it has numbers or is one
  * @property {MessageKind} within the message that it is in
  */
 /** @typedef {(index: number, at: number, end: number) => boolean} Test */
@@ -36,7 +39,10 @@ const DELIMITED = 2;
  * @returns {Part}
  */
 export function wholeOf(bytes) {
-  return { is: 'field', index: 0, at: 0, keyEnd: 0, payload: 0, end: bytes.length, number: 0, wireType: DELIMITED, ordinal: 0, message: 'tile', isList: false, within: 'tile' };
+  return {
+    is: 'field', index: 0, at: 0, keyEnd: 0, payload: 0, end: bytes.length, number: 0, wireType: DELIMITED, isOwn: true, ordinal: 0,
+    message: 'tile', isList: false, progress: null, within: 'tile',
+  };
 }
 
 /**
@@ -96,32 +102,32 @@ function found(bytes, part, isWanted) {
  * @returns {Found & {stop: number}} and where no field can be read any more
  */
 function fieldsIn(bytes, part, within, isWanted) {
-  const cursor = new Cursor(bytes, { begin: part.payload, end: part.end }), parts = [];
-  /** @type {Map<number, number>} */
+  const message = { begin: part.payload, end: part.end }, cursor = new Cursor(bytes, message), lists = new Lists(bytes, message, within), parts = [];
+  /** @type {Map<number, number>} how many fields there were with a number and a wire type, by both */
   const counts = new Map();
   let count = 0;
   while (cursor.read()) {
-    const ordinal = counts.get(cursor.number) ?? 0;
-    counts.set(cursor.number, ordinal + 1);
-    if (isWanted(count, cursor.at, cursor.next)) parts.push(fieldAt(bytes, cursor, within, count, ordinal));
+    const key = 8 * cursor.number + cursor.wireType, ordinal = counts.get(key) ?? 0;
+    counts.set(key, ordinal + 1);
+    if (isWanted(count, cursor.at, cursor.next)) parts.push(fieldAt(cursor, within, lists, { index: count, ordinal }));
     count += 1;
   }
   return { parts, count, stop: cursor.next };
 }
 
 /**
- * @param {Uint8Array} bytes
  * @param {Cursor} cursor that has read the field
  * @param {MessageKind} within
- * @param {number} index
- * @param {number} ordinal
+ * @param {Lists} lists of the message
+ * @param {{index: number, ordinal: number}} place among its fields
  * @returns {Part}
  */
-function fieldAt(bytes, { at, end, next, number, wireType }, within, index, ordinal) {
-  const { keyEnd, payload } = beginField(bytes, at, end), rule = ruleOf(within, number), isOwn = rule?.wireType === wireType && wireType === DELIMITED;
+function fieldAt({ bytes, at, end, next, payload, number, wireType }, within, lists, place) {
+  const rule = ruleOf(within, number), isOwn = rule !== null && ownWireTypes(rule).includes(wireType), isDelimited = wireType === DELIMITED;
+  const progress = isOwn && rule.kind === 'numbers' ? lists.before(number, at) : null;
   return {
-    is: 'field', index, at, keyEnd, payload, end: next, number, wireType, ordinal,
-    message: isOwn ? MESSAGES[within][number] ?? null : null, isList: isOwn && rule?.kind === 'numbers', within,
+    is: 'field', ...place, at, keyEnd: beginField(bytes, at, end).keyEnd, payload, end: next, number, wireType, isOwn,
+    message: isOwn && isDelimited ? MESSAGES[within][number] ?? null : null, isList: progress !== null && isDelimited, progress, within,
   };
 }
 
@@ -132,34 +138,16 @@ function fieldAt(bytes, { at, end, next, number, wireType }, within, index, ordi
  * @returns {Found & {stop: number}}
  */
 function numbersIn(bytes, list, isWanted) {
-  const parts = [];
-  let count = 0, begin = list.payload;
-  for (let at = list.payload; at < list.end && at - begin < 10; at += 1) {
-    if (bytes[at] >= 128) continue;
-    if (isWanted(count, begin, at + 1)) {
-      parts.push({ ...list, is: /** @type {const} */ ('number'), index: count, at: begin, keyEnd: begin, payload: begin, end: at + 1, ordinal: count, isList: false });
+  const cursor = new Cursor(bytes, { begin: list.payload, end: list.end }), parts = [];
+  const progress = { number: list.number, count: 0, due: 0, isLost: false, ...list.progress };
+  let count = 0;
+  for (let it = cursor.readNumber(); it >= 0; it = cursor.readNumber()) {
+    const { at, next: end } = cursor;
+    if (isWanted(count, at, end)) {
+      parts.push({ ...list, is: /** @type {const} */ ('number'), index: count, at, keyEnd: at, payload: at, end, isList: false, progress: { ...progress } });
     }
+    goPast(progress, it);
     count += 1;
-    begin = at + 1;
   }
-  return { parts, count, stop: begin };
-}
-
-/**
- * The numbers of a list as far as they can be read and are needed.
- * @param {Uint8Array} bytes
- * @param {Part} list
- * @param {number} most
- * @returns {number[]}
- */
-export function numbersOf(bytes, { payload, end }, most) {
-  const numbers = [];
-  for (let at = payload, number = 0, weight = 1; at < end && numbers.length < most; at += 1) {
-    number += (bytes[at] % 128) * weight;
-    weight *= 128;
-    if (bytes[at] >= 128) continue;
-    numbers.push(number);
-    [number, weight] = [0, 1];
-  }
-  return numbers;
+  return { parts, count, stop: cursor.next };
 }

@@ -4,7 +4,7 @@
 import { element } from '../tools/dom.js';
 import { digits } from '../tools/text.js';
 import { hasParts, partsOf, wholeOf } from './parts.js';
-import { contentText, nameOf, textsOfNumbers } from './words.js';
+import { contentText, nameOf } from './words.js';
 
 /** @typedef {import('./parts.js').Part} Part */
 /** @typedef {{part: Part, item: HTMLElement, above: Branch|null, group: HTMLElement|null, below: Map<number, Branch>}} Branch a part that is listed; those below it by their indices */
@@ -39,7 +39,7 @@ export class FieldTree {
   show(bytes) {
     this.clear();
     this.#bytes = bytes;
-    this.#root = this.#branch(wholeOf(bytes), null, contentText(bytes, wholeOf(bytes)));
+    this.#root = this.#branch(wholeOf(bytes), null, 1);
     this.#host.append(this.#root.item);
     this.#open(this.#root, 0);
     this.#mark(this.#root);
@@ -80,12 +80,14 @@ export class FieldTree {
   /**
    * @param {Part} part
    * @param {Branch|null} above
-   * @param {string} content
+   * @param {number} count of the parts among which it is, also of those that aren't listed
    * @returns {Branch}
    */
-  #branch(part, above, content) {
-    const line = element('span', { class: 'field-line' }, element('b', {}, nameOf(part)), ' ', element('span', { class: 'small' }, content));
-    const item = element('li', { role: 'treeitem', tabindex: -1, 'aria-selected': 'false', 'data-at': part.at, 'aria-expanded': hasParts(part) ? 'false' : undefined }, line);
+  #branch(part, above, count) {
+    const content = element('span', { class: 'small' }, contentText(this.#bytes, part));
+    const line = element('span', { class: 'field-line' }, element('b', {}, nameOf(part)), ' ', content);
+    const isExpanded = hasParts(part) ? 'false' : undefined, place = { 'aria-posinset': part.index + 1, 'aria-setsize': count };
+    const item = element('li', { role: 'treeitem', tabindex: -1, 'aria-selected': 'false', 'aria-expanded': isExpanded, ...place, 'data-at': part.at }, line);
     const branch = { part, item, above, group: null, below: new Map() };
     this.#branches.set(item, branch);
     return branch;
@@ -98,8 +100,7 @@ export class FieldTree {
    */
   #open(branch, index) {
     const first = index - (index % LISTED), { parts, count } = partsOf(this.#bytes, branch.part, first, LISTED);
-    const texts = branch.part.isList ? textsOfNumbers(this.#bytes, branch.part, first, LISTED) : [];
-    branch.below = new Map(parts.map((part, at) => [part.index, this.#branch(part, branch, texts[at] ?? contentText(this.#bytes, part))]));
+    branch.below = new Map(parts.map((part) => [part.index, this.#branch(part, branch, count)]));
     const items = [...branch.below.values()].map(({ item }) => item), last = first + parts.length;
     if (first > 0) items.unshift(this.#more(branch, `${digits(first)} before`, first - 1));
     if (last < count) items.push(this.#more(branch, `${digits(count - last)} after`, last));

@@ -1,49 +1,51 @@
 // What is said of a part of a tile's bytes.
 
-import { decodeNumbers } from '../../../../bindings/js/src/tile/commands.js';
 import { readVarint } from '../../../../bindings/js/src/tile/fields.js';
-import { typeName } from '../../../../bindings/js/src/tile/layers.js';
+import { floatText, typeName } from '../../../../bindings/js/src/tile/layers.js';
 import { ruleOf, wireTypeName } from '../../../../bindings/js/src/tile/schema.js';
 import { shortText } from '../../../../bindings/js/src/picture/words.js';
 import { counted } from '../tools/text.js';
-import { numbersOf, partsOf } from './parts.js';
+import { textOf } from './lists.js';
+import { partsOf } from './parts.js';
 
 /** @typedef {import('./parts.js').Part} Part */
 
 /** @type {Record<string, string>} the names of fields that a message may have many of */
 const ONE_OF = { layers: 'layer', features: 'feature', keys: 'key', values: 'value' };
-const TAGS = 2, NAME = 1, TYPE = 3;
+const NAME = 1, TYPE = 3;
 const FEW = 16; // parts among which a layer's name is looked for
 
 /**
  * The name of a part: 'layer 0', 'geometry', 'number 3', 'field 77'.
  * @param {Part} part
  */
-export function nameOf({ is, within, number, ordinal, end, at, message }) {
+export function nameOf({ is, within, number, isOwn, ordinal, end, at, message, isList, progress }) {
   if (message === 'tile') return 'tile';
   if (is === 'unread') return `bytes ${at} to ${end - 1}`;
-  if (is === 'number') return `number ${ordinal}`;
+  if (is === 'number') return `number ${progress?.count}`;
   const name = ruleOf(within, number)?.name ?? `field ${number}`;
-  return name in ONE_OF ? `${ONE_OF[name]} ${ordinal}` : name;
+  if (progress && !isList) return `${name}, number ${progress.count}`;
+  return isOwn && name in ONE_OF ? `${ONE_OF[name]} ${ordinal}` : name;
 }
 
 /**
- * What a part has, in short; of a number of a list it is told by `textsOfNumbers`.
+ * What a part has, in short.
  * @param {Uint8Array} bytes
  * @param {Part} part
  * @returns {string}
  */
 export function contentText(bytes, part) {
-  const { is, within, number, wireType, payload, end, message, isList } = part;
+  const { is, within, number, wireType, isOwn, payload, end, message, isList, progress } = part;
   if (is === 'unread') return "can't be read";
   if (message === 'layer') return [layerName(bytes, part), sizeText(part)].filter(Boolean).join(', ');
   if (message === 'value') return valueText(bytes, part);
-  if (message || isList || is === 'number') return sizeText(part);
+  if (message || isList) return sizeText(part);
   const rule = ruleOf(within, number);
-  if (!rule || rule.wireType !== wireType) return `${wireTypeName(wireType)}, ${sizeText(part)}`;
+  if (!rule || !isOwn) return `${wireTypeName(wireType)}, ${sizeText(part)}`;
   if (rule.kind === 'text') return shortText(bytes.subarray(payload, end));
-  if (rule.kind === 'float') return floatText(bytes, part);
+  if (rule.kind === 'float') return floatText(bytes.subarray(payload, end));
   const varint = readVarint(bytes, payload, end)?.value ?? 0n;
+  if (progress) return textOf(varint, progress);
   return within === 'feature' && number === TYPE ? `${varint} (${typeName(Number(varint))})` : numberText(rule.kind, varint);
 }
 
@@ -64,15 +66,6 @@ function numberText(kind, varint) {
 
 /**
  * @param {Uint8Array} bytes
- * @param {Part} part
- */
-function floatText(bytes, { payload, end }) {
-  const view = new DataView(bytes.buffer, bytes.byteOffset + payload, end - payload);
-  return String(end - payload === 8 ? view.getFloat64(0, true) : view.getFloat32(0, true));
-}
-
-/**
- * @param {Uint8Array} bytes
  * @param {Part} layer
  */
 function layerName(bytes, layer) {
@@ -88,20 +81,6 @@ function layerName(bytes, layer) {
 function valueText(bytes, value) {
   const [first] = partsOf(bytes, value, 0, 1).parts;
   return first ? `${nameOf(first)} ${contentText(bytes, first)}` : 'no bytes';
-}
-
-/**
- * What numbers of a list mean, from the first one on: commands and steps of a geometry, keys and values of tags.
- * @param {Uint8Array} bytes
- * @param {Part} list
- * @param {number} first
- * @param {number} most
- * @returns {string[]}
- */
-export function textsOfNumbers(bytes, list, first, most) {
-  const numbers = numbersOf(bytes, list, first + most);
-  if (list.number === TAGS) return numbers.slice(first).map((number, at) => `${number}: ${(first + at) % 2 ? 'value' : 'key'} ${number}`);
-  return decodeNumbers(numbers, first, first + most).map(({ number, text }) => (text ? `${number}: ${text}` : String(number)));
 }
 
 /**

@@ -3,7 +3,7 @@
 import { Stopped } from '../../../../bindings/js/src/gate/errors.js';
 import { reasonOf } from '../files/checks.js';
 import { zip } from '../files/zip.js';
-import { fileNameOf, packedAs } from './file.js';
+import { fileNameOf, packedAs, splitName } from './file.js';
 import { counted, digits } from '../tools/text.js';
 
 /** @typedef {import('../files/checks.js').Entry} Entry */
@@ -71,9 +71,9 @@ function sentenceOf(faulty, mended, errors) {
  */
 export function nameAmong(names, name) {
   const parts = name.replaceAll('\\', '/').split('/').filter((part) => part !== '' && part !== '.').map((part) => (part === '..' ? '_' : part));
-  const wanted = parts.join('/') || 'tile.mvt';
+  const wanted = parts.join('/') || 'tile.mvt', { stem, ending } = splitName(wanted);
   let found = wanted;
-  for (let count = 2; names.has(found); count += 1) found = wanted.replace(/((?:\.[^./]+){0,2})$/, ` (${count})$1`);
+  for (let count = 2; names.has(found); count += 1) found = `${stem} (${count})${ending}`;
   names.add(found);
   return found;
 }

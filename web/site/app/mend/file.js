@@ -13,11 +13,20 @@ export function fileNameOf({ name, place }) {
 }
 
 /**
+ * A name without its ending, and that: '.mvt' or '.mvt.gz'. Numbers that follow points are none: they may be the tile's place.
+ * @param {string} name of a file, with its folders or without
+ */
+export function splitName(name) {
+  const [, stem, ending] = /^(.*?)((?:\.[a-z][^./]*)?(?:\.gz)?)$/is.exec(name) ?? ['', name, ''];
+  return { stem, ending };
+}
+
+/**
  * 'tile.mvt.gz' becomes 'tile.mended.mvt.gz'.
  * @param {string} name of a file, with its folders or without
  */
 export function mendedName(name) {
-  const [, stem, ending] = /^(.*?)((?:\.[^./]+){0,2})$/.exec(name.split('/').pop() ?? '') ?? [];
+  const { stem, ending } = splitName(name.split('/').pop() ?? '');
   return `${stem || 'tile'}.mended${ending || '.mvt'}`;
 }
 

@@ -60,6 +60,7 @@ export class MendPanel {
     this.#entry = entry;
     this.#result = null;
     this.#section.hidden = entry === null || entry.state !== 'fault' || !isMendable(entry.fault);
+    this.#section.setAttribute('aria-busy', 'false'); // (what was under way is no longer waited for)
     this.#summary.textContent = '';
     this.#clear();
   }

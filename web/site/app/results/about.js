@@ -2,6 +2,7 @@
 
 import { Cursor } from '../../../../bindings/js/src/tile/cursor.js';
 import { layerName, messageOfFault, readField } from '../../../../bindings/js/src/tile/fields.js';
+import { textOfBytes } from '../../../../bindings/js/src/tile/text.js';
 
 /** @typedef {import('../../../../bindings/js/src/picture/types.js').Fault} Fault */
 /** @typedef {import('../../../../bindings/js/src/tile/fields.js').Message} Message */
@@ -19,7 +20,7 @@ export function aboutOf(fault, tile) {
   const layer = messageAt(tile, 'layer', fault.layer ?? fault.first, fault);
   const name = layer && layerName(tile, layer), feature = messageAt(tile, 'feature', fault.feature, fault);
   return {
-    layer: name && new TextDecoder().decode(name), featureId: feature && numberOf(tile, feature, ID),
+    layer: name && textOfBytes(name), featureId: feature && numberOf(tile, feature, ID),
     extent: Number((layer && numberOf(tile, layer, EXTENT)) ?? COMMON_EXTENT),
   };
 }

@@ -38,14 +38,15 @@ function rowOf({ name, state, reason, fault, said, about }) {
 }
 
 /**
- * The lines that mvtgate-check writes with --json --valid.
+ * Lines with the members of those that mvtgate-check writes with --json --valid.
  * @param {Entry[]} entries
  */
 export function jsonOf(entries) {
   return judged(entries).map((entry) => {
-    const { state, reason, fault } = entry, tile = whereOf(entry);
+    const { state, reason, fault, format } = entry, tile = whereOf(entry);
     if (state === 'valid') return { ...tile, valid: true };
-    return fault && state === 'fault' ? { ...tile, fault, sentence: explainFault(fault).sentence } : { ...tile, error: reason };
+    if (state !== 'fault' || !fault) return { ...tile, error: reason };
+    return { ...tile, fault, sentence: explainFault(fault).sentence, ...(format && { format: format.name }) };
   }).map((line) => `${JSON.stringify(line)}\n`).join('');
 }
 

@@ -25,7 +25,7 @@ export function pictureOfBytes(fault, tile) {
   if (!message) return null;
   const { fields, omitted } = fieldsBefore(tile, message, fault.at, MOST_SPANS);
   const { list, end: faultEnd, says } = aboutFault(tile, message, fault, fields);
-  const read = [...fields.map((field) => fieldSpan(tile, message, field, list)), ...(list ? numberSpans(tile, list, fault.at) : [])];
+  const read = [...fields.map((field) => fieldSpan(tile, message, field, list)), ...(list ? numberSpans(tile, message, list, fault.at) : [])];
   return {
     kind: 'bytes', title: 'The bytes around the fault',
     words: `${sentence(rangeText(message))}. At byte ${fault.at}: ${says}.`,
@@ -107,11 +107,12 @@ function valueText(tile, message, field) {
 
 /**
  * @param {Uint8Array} tile
+ * @param {Message} message
  * @param {Field} list
  * @param {number} place
  * @returns {Span[]}
  */
-function numberSpans(tile, list, place) {
-  return packedNumbersBefore(tile, list, place, MOST_SPANS).numbers
+function numberSpans(tile, message, list, place) {
+  return packedNumbersBefore(tile, message, list, place, MOST_SPANS).numbers
     .map(({ at, end, value, index }) => ({ at, end, label: String(value), says: `number ${index} of ${list.name}: ${value}`, kind: 'field' }));
 }

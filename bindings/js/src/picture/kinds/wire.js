@@ -1,7 +1,7 @@
 // What a wire fault is about: the bytes from its place on, and what they say.
 
 import { beginField, packedNumbersBefore, readVarint } from '../../tile/fields.js';
-import { knownFields, ruleOf, wireTypeName } from '../../tile/schema.js';
+import { knownFields, ownWireTypes, ruleOf, wireTypeName } from '../../tile/schema.js';
 import { shortText } from '../words.js';
 
 /** @typedef {import('../../tile/fields.js').Message} Message */
@@ -120,8 +120,10 @@ function aboutLength(scene) {
  * @returns {About}
  */
 function aboutOtherType(scene) {
-  const { wireType, end } = scene.begun, own = ruleOf(scene.message.kind, scene.fault.field)?.wireType ?? wireType;
-  return { end, says: `${fieldName(scene)} has wire type ${wireTypeText(wireType)}, and its own is ${wireTypeText(own)}` };
+  const { wireType, end } = scene.begun, rule = ruleOf(scene.message.kind, scene.fault.field);
+  const [own, ofOne] = rule ? ownWireTypes(rule) : [wireType];
+  const orOne = ofOne === undefined ? '' : `, or ${wireTypeText(ofOne)} for a single number`;
+  return { end, says: `${fieldName(scene)} has wire type ${wireTypeText(wireType)}, and its own is ${wireTypeText(own)}${orOne}` };
 }
 
 /**
@@ -167,6 +169,6 @@ function aboutRange(scene) {
   const { tile, message, fault: { at, field }, list, end } = scene;
   const varint = readVarint(tile, at, end) ?? { value: 0n, end: at };
   const greatest = message.kind === 'feature' && field === 3 ? '3' : '4294967295';
-  const place = list ? `number ${packedNumbersBefore(tile, list, at, 1).count} of ${list.name}` : fieldName(scene);
+  const place = list ? `number ${packedNumbersBefore(tile, message, list, at, 1).count} of ${list.name}` : fieldName(scene);
   return { end: varint.end, says: `${place} is ${varint.value}, which is above ${greatest}` };
 }

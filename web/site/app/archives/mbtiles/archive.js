@@ -17,10 +17,12 @@ const PLACE = ['zoom_level', 'tile_column', 'tile_row'], DATA = 'tile_data';
 const LAST_ZOOM = 30;
 const ROW_LIMIT = TILE_LIMIT + 1024; // bytes: a tile and the other columns
 const NO_TILES = 'the database has no tiles: neither a table with zoom_level, tile_column, tile_row and tile_data, nor two of places and contents';
+const LOG = "Its latest changes may stand in a log, a file beside it whose name ends with -wal, which isn't seen here: close the writer first.";
 const NO_INDEX = 'it has no index for its tiles; make one: CREATE UNIQUE INDEX tile_index ON tiles (zoom_level, tile_column, tile_row)';
 
 /** @implements {Archive} */
 export class Mbtiles {
+  note;
   #places;
   #way;
   /** @type {{table: Table, id: string}|null} the table of contents, and the column by which they are found; null where they are with the places */
@@ -29,8 +31,10 @@ export class Mbtiles {
   /**
    * @param {Places} places
    * @param {{table: Table, id: string}|null} contents
+   * @param {string} note
    */
-  constructor({ table, way }, contents) {
+  constructor({ table, way }, contents, note) {
+    this.note = note;
     this.#places = table;
     this.#way = way;
     this.#contents = contents;
@@ -39,13 +43,13 @@ export class Mbtiles {
   /** @param {Blob} file */
   static open(file) {
     return told(async () => {
-      const database = await Database.open(file), tables = database.tablesWith(PLACE, ROW_LIMIT);
+      const database = await Database.open(file), tables = database.tablesWith(PLACE, ROW_LIMIT), note = database.mayHaveLog ? LOG : '';
       const whole = tables.find(({ name, form }) => name === 'tiles' && form.columns.includes(DATA));
-      if (whole) return new Mbtiles(withWay(whole), null);
+      if (whole) return new Mbtiles(withWay(whole), null, note);
       const contents = database.tablesWith([DATA], ROW_LIMIT);
       for (const places of tables) {
         const pair = pairOf(places, contents);
-        if (pair) return new Mbtiles(withWay(places), pair);
+        if (pair) return new Mbtiles(withWay(places), pair, note);
       }
       throw new Unreadable(NO_TILES);
     });

@@ -19,6 +19,7 @@ const MOST_ITEMS = 10_000;
 const AUTOMATIC = /^sqlite_autoindex_.*_(\d+)$/;
 
 export class Database {
+  mayHaveLog;
   #pages;
   /** @type {Item[]} */
   #items;
@@ -28,6 +29,7 @@ export class Database {
    * @param {Item[]} items
    */
   constructor(pages, items) {
+    this.mayHaveLog = pages.mayHaveLog;
     this.#pages = pages;
     this.#items = items;
   }

@@ -3,6 +3,7 @@
 
 import { Unreadable } from '../../files/read.js';
 import { digits } from '../../tools/text.js';
+import { Kept } from '../kept.js';
 import { bytesAt } from '../slices.js';
 
 const HEAD = 100; // bytes in front of the first page's own
@@ -13,8 +14,8 @@ const ENCODINGS = ['', 'utf-8', 'utf-16le', 'utf-16be'];
 /** @typedef {{number: number, view: DataView, head: number}} Page its head begins at `head` */
 
 export class Pages {
-  /** @type {Map<number, Promise<Page>>} the one that was used last at the end */
-  #kept = new Map();
+  /** @type {Kept<Page>} */
+  #kept;
   #file;
   #size;
   #count;
@@ -22,6 +23,8 @@ export class Pages {
   usable;
   /** How texts are written. */
   encoding;
+  /** Whether a log of changes may stand beside the file (its format, section 4). */
+  mayHaveLog;
 
   /**
    * @param {Blob} file
@@ -33,8 +36,10 @@ export class Pages {
     this.#size = size === 1 ? 1 << 16 : size;
     this.#count = Math.floor(file.size / this.#size);
     this.usable = this.#size - view.getUint8(20);
+    this.mayHaveLog = view.getUint8(19) === 2;
     this.encoding = ENCODINGS[view.getUint32(56)] || 'utf-8'; // (0 in a database without a text)
     const isPower = this.#size >= 512 && (this.#size & (this.#size - 1)) === 0;
+    this.#kept = new Kept(Math.floor(KEPT / this.#size));
     if (!isPower || this.usable < LEAST_USABLE) throw new Unreadable('the database is damaged: its pages have a size that no page has');
   }
 
@@ -49,11 +54,7 @@ export class Pages {
    * @returns {Promise<Page>}
    */
   page(number) {
-    const page = this.#kept.get(number) ?? this.#read(number);
-    this.#kept.delete(number);
-    this.#kept.set(number, page);
-    if (this.#kept.size * this.#size > KEPT) this.#kept.delete([...this.#kept.keys()][0]);
-    return page;
+    return this.#kept.get(number, () => this.#read(number));
   }
 
   /**

@@ -2,6 +2,7 @@
 
 import { Unreadable } from '../../files/read.js';
 import { digits } from '../../tools/text.js';
+import { Kept } from '../kept.js';
 import { middleOf } from '../middle.js';
 import { bytesAt, sliceOf } from '../slices.js';
 import { DIRECTORY_LIMIT, directoryOf, entryBefore } from './directory.js';
@@ -20,11 +21,12 @@ const MOST_READ = 64; // leaf directories for one question
 
 /** @implements {Archive} */
 export class Pmtiles {
+  note = '';
   #file;
   #header;
   #root;
-  /** @type {Map<string, Promise<Directory>>} leaf directories by where they are and what they are for, the one that was used last at the end */
-  #leaves = new Map();
+  /** @type {Kept<Directory>} leaf directories by where they are and what they are for */
+  #leaves = new Kept(KEPT);
 
   /**
    * @param {Blob} file
@@ -122,12 +124,7 @@ export class Pmtiles {
    * @returns {Promise<Directory>}
    */
   #leaf(offset, length, first, after) {
-    const name = [offset, length, first, after].join();
-    const known = this.#leaves.get(name) ?? this.#readLeaf(offset, length, first, after);
-    this.#leaves.delete(name);
-    this.#leaves.set(name, known);
-    if (this.#leaves.size > KEPT) this.#leaves.delete([...this.#leaves.keys()][0]);
-    return known;
+    return this.#leaves.get([offset, length, first, after].join(), () => this.#readLeaf(offset, length, first, after));
   }
 
   /**

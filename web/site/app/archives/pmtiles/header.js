@@ -8,7 +8,7 @@ export const MAGIC = 'PMTiles';
 const VERSION = 3;
 const NONE = 1, GZIP = 2;
 const PACKINGS = ['in an unknown way', 'not at all', 'by gzip', 'by brotli', 'by Zstandard'];
-const KINDS = ['of an unknown kind', 'vector tiles', 'PNG pictures', 'JPEG pictures', 'WebP pictures', 'AVIF pictures'];
+const KINDS = ['of an unknown kind', 'vector tiles', 'PNG pictures', 'JPEG pictures', 'WebP pictures', 'AVIF pictures', 'MapLibre tiles'];
 const UNKNOWN_KIND = 0, VECTOR = 1, UNKNOWN_PACKING = 0;
 
 /** @typedef {{at: number, length: number}} Section a part of the archive */
@@ -25,7 +25,7 @@ export function headerOf(head) {
   const directories = head[97], tiles = head[98], kind = head[99];
   if (directories !== NONE && directories !== GZIP) throw new Unreadable(`its directories are packed ${nameOf(PACKINGS, directories)}; gzip and none are read`);
   if (tiles !== NONE && tiles !== GZIP && tiles !== UNKNOWN_PACKING) throw new Unreadable(`its tiles are packed ${nameOf(PACKINGS, tiles)}; gzip and none are read`);
-  if (kind !== UNKNOWN_KIND && kind !== VECTOR) throw new Unreadable(`its tiles are no vector tiles, but ${nameOf(KINDS, kind)}`);
+  if (kind !== UNKNOWN_KIND && kind !== VECTOR) throw new Unreadable(`its tiles are no Mapbox vector tiles, but ${nameOf(KINDS, kind)}`);
   return { root: sectionAt(view, 8), leaves: sectionAt(view, 40), data: sectionAt(view, 56), isPacked: directories === GZIP };
 }
 
