@@ -41,6 +41,11 @@ def names_of(tile: bytes, fault: Fault) -> Tuple[Optional[str], Optional[int]]:
     return name, None if feature is None else _id_of(feature)
 
 
+def _extent_of(layer: memoryview) -> int:
+    found = number_of(layer, EXTENT)
+    return _USUAL_EXTENT if found is None else found
+
+
 def _id_of(feature: memoryview) -> Optional[int]:
     found = number_of(feature, ID)
     return found if found is None or found < 1 << 64 else None
@@ -104,4 +109,4 @@ class Names:
         self._at = index
         layer = self._layers.at(index)
         self._features = None if layer is None else _Walk(layer, FEATURE)
-        self._layer = Subject() if layer is None else Subject(_name_of(layer), extent=number_of(layer, EXTENT) or _USUAL_EXTENT)
+        self._layer = Subject() if layer is None else Subject(_name_of(layer), extent=_extent_of(layer))
