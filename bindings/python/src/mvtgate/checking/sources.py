@@ -4,6 +4,7 @@ Nothing is kept of what was found but the names in one folder at a time.
 """
 from __future__ import annotations
 
+import contextlib
 import os
 import stat
 import sys
@@ -104,13 +105,14 @@ def _of_folder(folder: str) -> Iterator[Found]:
 def _of_archive(path: str) -> Iterator[Found]:
     """An MBTiles file or a PMTiles archive. Its faults name tiles by z/x/y."""
     try:
-        source = open_source(path)
-        stamp = source.stamp()
-        if not source.survey():
-            raise NotASource("it has no tiles")
-        for partition in source.partitions(0, _MOST_IN_ARCHIVE):
-            source.check(stamp)
-            yield ArchivePart(path, stamp, partition)
+        # (there may be more archives than files that may be open)
+        with contextlib.closing(open_source(path)) as source:
+            stamp = source.stamp()
+            if not source.survey():
+                raise NotASource("it has no tiles")
+            for partition in source.partitions(0, _MOST_IN_ARCHIVE):
+                source.check(stamp)
+                yield ArchivePart(path, stamp, partition)
     except (NotASource, SourceChanged, OSError) as error:
         yield Failed(path, reason(path, error))
 
