@@ -10,7 +10,7 @@ import stat
 import sys
 from typing import Iterable, Iterator, List, NamedTuple, Set, Union
 
-from .._files import ENDINGS, LIMIT
+from .._files import ARCHIVES, ENDINGS, LIMIT
 from ..planet.sources import NotASource, SourceChanged, open_source
 from ..planet.sources.pmtiles import MAGIC, is_address
 from .names import INPUT
@@ -19,11 +19,10 @@ from .pieces import ArchivePart, Failed, Files, Given, Piece, reason
 # how many tiles a piece has at most: few, so that each of several processes has its share of a small folder
 _MOST_FILES = 8
 _MOST_IN_ARCHIVE = 32
-_ARCHIVES = (".mbtiles", ".pmtiles")
 _SQLITE = b"SQLite format 3\0"
 # (the header of a PMTiles archive)
 _HEAD = 127
-_WANTED = (*ENDINGS, *_ARCHIVES)
+_WANTED = (*ENDINGS, *ARCHIVES)
 
 # (a text is the path of a file with one tile)
 Found = Union[str, Piece]
@@ -118,7 +117,7 @@ def _of_archive(path: str) -> Iterator[Found]:
 
 
 def _of_file(path: str) -> Iterator[Found]:
-    if path.endswith(_ARCHIVES):
+    if path.endswith(ARCHIVES):
         yield from _of_archive(path)
     else:
         yield path

@@ -278,3 +278,25 @@ def test_statuses_of_a_pipeline(planet: Planet, tmp_path: pathlib.Path, schedule
 def test_wrong_words(planet: Planet, tmp_path: pathlib.Path, words: List[str]) -> None:
     it = run(tmp_path / "out", planet.path, *words)
     assert it.process.returncode == REFUSED and "usage: mvtgate-planet" in it.stderr and not it.output.exists()
+
+
+def test_report_in_the_place_of_tiles(planet: Planet, tmp_path: pathlib.Path) -> None:
+    """Where its name was left out, the next file isn't written over, nor one that is judged."""
+    other = tmp_path / "other.mbtiles"
+    other.write_bytes(planet.path.read_bytes())
+    link = tmp_path / "link"
+    link.symlink_to(planet.path)
+    before = planet.path.read_bytes()
+    for junit in (other, link):
+        it = run(tmp_path / "out", "--junit", junit, planet.path)
+        assert it.process.returncode == REFUSED and it.said[-1] == f"mvtgate-planet: {junit}: --junit takes the name of a report, and this is that of tiles"
+    assert other.read_bytes() == planet.path.read_bytes() == before and link.is_symlink() and not (tmp_path / "out/journal.jsonl").exists()
+
+
+def test_since_its_own_folder(earlier: Tuple[Planet, Run], tmp_path: pathlib.Path) -> None:
+    """As where both are the folder that a run without --output has."""
+    planet, was = earlier
+    (tmp_path / "link").symlink_to(was.output)
+    it = run(tmp_path / "link", planet.path, "--since", was.output)
+    assert it.process.returncode == REFUSED
+    assert it.said[-1] == f"mvtgate-planet: {was.output}: the earlier run stays, so this one needs another --output"
