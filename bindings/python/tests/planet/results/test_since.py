@@ -143,8 +143,9 @@ def test_tiles_that_cannot_be_judged_any_more(tmp_path: pathlib.Path, scheduler:
     assert second.process.returncode == UNJUDGED, second.stderr
     told = {(line["tile"], line["what"], line["code"]) for line in records(second.output / "since.jsonl")}
     assert told == {("2/0/0", "unjudged", 504), ("2/1/0", "unjudged", 504), ("2/2/0", "mended", 504)}
-    assert {key: summary(second)["since"][key] for key in ("mended", "unjudged")} == {"mended": 1, "unjudged": 2}
-    assert 'data-since="unjudged"' in (second.output / "report.html").read_text()
+    assert {key: summary(second)["since"][key] for key in ("judged", "mended", "unjudged")} == {"judged": 1, "mended": 1, "unjudged": 2}
+    html = (second.output / "report.html").read_text()
+    assert 'data-since="unjudged"' in html and "1 tile was judged, and 3 couldn't be; the others have the same bytes." in html
 
 
 @pytest.mark.parametrize("left", [None, b"", b"cut"])
