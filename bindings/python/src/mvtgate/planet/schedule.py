@@ -252,8 +252,13 @@ class Schedule:
             self._on_done(it.partition)
 
     def _parts(self, partition: Partition) -> List[Partition]:
+        """Its parts. SourceChanged where they haven't all of its tiles, since some came or went, of which no worker could tell."""
         source = self._task_of(partition).source()
-        return list(source.split(partition, -(-partition.tiles // _PARTS)))
+        parts = list(source.split(partition, -(-partition.tiles // _PARTS)))
+        tiles = sum(it.tiles for it in parts)
+        if tiles != partition.tiles:
+            raise SourceChanged(f"{source.path} has {tiles} tiles where it had {partition.tiles} when the run began")
+        return parts
 
 
 def _is_ended(error: BaseException) -> bool:

@@ -294,6 +294,25 @@ def test_tiles_at_one_place_end(tmp_path: pathlib.Path) -> None:
     assert [(it.first, it.tiles) for it, _ in trial.schedule.unjudged] == [((1, 62), 2)]
 
 
+def test_tiles_that_go_before_their_parts_are_made(tmp_path: pathlib.Path) -> None:
+    """Of a folder that is the only sign that it has changed: none is left out without a word."""
+    column = tmp_path / "tiles/6/1"
+    column.mkdir(parents=True)
+    for row in range(20):
+        (column / f"{row}.mvt").write_bytes(VALID)
+    source = open_source(str(tmp_path / "tiles"))
+    [extent] = source.survey()
+    task = Task(source.path, source.stamp(), extent, "polygon", False, mvtgate.version())
+
+    def answer(future: Future) -> None:
+        (column / "7.mvt").unlink(missing_ok=True)
+        future.end(error=KilledWorker())
+
+    it = Schedule(Client(answer, ["a", "b"]), lambda _: task, Journal(str(tmp_path / "journal.jsonl"), {"format": FORMAT, "began": ""}), lambda _: None)
+    with pytest.raises(SourceChanged, match="has 19 tiles where it had 20 when the run began"):
+        it.run(source.partitions(0, 1000))
+
+
 def test_other_errors_are_told(tmp_path: pathlib.Path) -> None:
     """Of a part of the file that can't be read, say."""
 

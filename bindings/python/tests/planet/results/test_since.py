@@ -199,6 +199,8 @@ def test_windows() -> None:
     assert Window(box=(0.0, 0.0, 11.25, 21.0)).ranges(5) == Ranges(16, 16, 14, 15)
     assert Window(box=(-180.0, -90.0, 180.0, 90.0)).ranges(3) == Ranges(0, 7, 0, 7)
     assert Ranges(0, 7, 1, 2).southern_rows(3) == (5, 6)
+    # (all numbers that SQLite has)
+    assert Window().ranges(3).southern_rows(3) == (-(2**63), 2**63 - 1)
     assert zooms_of("7") == (7, 7) and zooms_of("3-10") == (3, 10)
     for word in ("31", "5-3", "x", "-1", "1-", "٣"):
         with pytest.raises(ValueError):
