@@ -45,6 +45,13 @@ def test_reader_of_outermost_fields(path: pathlib.Path) -> None:
         reader.outermost(tile)
 
 
+def test_reader_without_a_line_of_advice(tmp_path: pathlib.Path) -> None:
+    """It says so of the tile, and goes on with the others."""
+    assert "advice can't be read" in reader.wrong_advice(tmp_path / "none.mvt", YES, [])
+    (tmp_path / "other.json").write_text('{"check":[]}')
+    assert "advice can't be read" in reader.wrong_advice(tmp_path / "other.mvt", YES, [])
+
+
 @each_sample
 def test_dump(sample: Sample) -> None:
     if sample.is_tile:

@@ -65,6 +65,8 @@ class Mbtiles(Source):
         self._databases: List[sqlite3.Connection] = []
         # (one that nobody closes stays open until there is a collection, also without this source)
         self._close = weakref.finalize(self, _close_all, self._databases)
+        # (at a process's end other threads may still read)
+        self._close.atexit = False
 
     def _log(self) -> Optional[str]:
         """A file with changes that aren't in this one yet, or with what to put back into it. It isn't read: the file is taken as it is."""
