@@ -4,7 +4,6 @@ This decides nothing, so it takes of bytes that are no tile what can be read.
 """
 from __future__ import annotations
 
-import itertools
 from typing import Iterator, Optional, Tuple, Union
 
 # fields of the messages of a tile (MVT 2.1 section 4)
@@ -50,12 +49,6 @@ def payloads(message: memoryview, number: int) -> Iterator[Union[int, memoryview
             at += size
     except LookupError:
         return
-
-
-def nth(message: memoryview, number: int, index: int) -> Optional[memoryview]:
-    """The payload of the field that occurs `index` times before it."""
-    found = (it for it in payloads(message, number) if isinstance(it, memoryview))
-    return next(itertools.islice(found, index, None), None)
 
 
 def number_of(message: memoryview, number: int) -> Optional[int]:
