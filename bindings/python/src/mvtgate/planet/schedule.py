@@ -112,7 +112,8 @@ class Schedule:
             return
         self._expect_scheduler()
         try:
-            workers = self._client.scheduler_info()["workers"]
+            # (later versions of Dask tell of five workers alone, unless they are asked for all)
+            workers = self._client.scheduler_info(n_workers=-1)["workers"]
             self._threads = {address: it["nthreads"] for address, it in workers.items()}
             self._ask_new_workers()
         except OSError:

@@ -68,10 +68,12 @@ class Client:
         self.look: Callable[[int], None] = lambda _: None
         self._answer = answer
 
-    def scheduler_info(self) -> Dict[str, Any]:
+    def scheduler_info(self, n_workers: int = 5) -> Dict[str, Any]:
+        """As Dask has it, of which later versions leave out all but some workers; a negative number is all."""
         self.looks += 1
         self.look(self.looks)
-        return {"workers": {address: {"nthreads": 1} for address in self.workers}}
+        told = self.workers if n_workers < 0 else self.workers[:n_workers]
+        return {"workers": {address: {"nthreads": 1} for address in told}}
 
     def run(self, call: Callable[[], str], workers: List[str], on_error: str) -> Dict[str, str]:
         """What each of these workers says, which are all of this process."""
@@ -150,7 +152,8 @@ def test_each_part_is_judged_and_confirmed(tmp_path: pathlib.Path) -> None:
     assert trial.schedule.most_workers == 3
 
 
-def test_few_are_under_way(tmp_path: pathlib.Path) -> None:
+@pytest.mark.parametrize("workers", ["ab", "abcdefgh"])
+def test_few_are_under_way(tmp_path: pathlib.Path, workers: str) -> None:
     """Four for each thread of a worker, however many there are."""
     waiting: List[Future] = []
     most = 0
@@ -165,10 +168,10 @@ def test_few_are_under_way(tmp_path: pathlib.Path) -> None:
             answered_by("a", "b", has_fault=False)(future)
         del waiting[:3]
 
-    trial = Trial(tmp_path, answer, ["a", "b"])
+    trial = Trial(tmp_path, answer, list(workers))
     trial.client.look = look
     trial.run(1)
-    assert most == 8
+    assert most == 4 * len(workers) and trial.schedule.most_workers == len(workers)
 
 
 def test_workers_that_come_later(tmp_path: pathlib.Path) -> None:
