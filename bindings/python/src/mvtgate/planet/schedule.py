@@ -24,7 +24,7 @@ from .journal import Journal
 from .records import Judged, Partition
 from .since import Known
 from .sources import SourceChanged
-from .work import Task, UnfitWorker, confirm, judge
+from .work import Task, TooManyMended, UnfitWorker, confirm, judge
 
 # partitions under way for each thread of a worker, and parts of one that can't be done
 _WINDOW = 4
@@ -204,6 +204,7 @@ class Schedule:
         it = self._under_way.pop(future, None)
         if it is None:
             return
+        error = result if isinstance(result, TooManyMended) else error
         if error is None:
             self._take(it, result)
         elif future.status == "cancelled":

@@ -11,13 +11,16 @@ from typing import Any, Callable, Dict, Generator, List, Optional, Tuple
 import pytest
 
 import mvtgate
-from mvtgate.planet import schedule
+from mvtgate.planet import schedule, work
+from mvtgate.planet.geojson import Address
 from mvtgate.planet.journal import FORMAT, Journal
+from mvtgate.planet.mending.tiles import mend
 from mvtgate.planet.records import Finding, Judged, Partition
 from mvtgate.planet.run import partition_of
 from mvtgate.planet.schedule import Schedule, Stopped
 from mvtgate.planet.sources import SourceChanged, open_source
 from mvtgate.planet.work import Task, UnfitWorker
+from planet.helpers.made import block, layer
 from planet.helpers.runs import INDEX, VALID, Tile, write_database
 
 FAULT = {"code": 201, "layer": 0}
@@ -314,6 +317,25 @@ def test_tiles_that_go_before_their_parts_are_made(tmp_path: pathlib.Path) -> No
     it = Schedule(Client(answer, ["a", "b"]), lambda _: task, Journal(str(tmp_path / "journal.jsonl"), {"format": FORMAT, "began": ""}), lambda _: None)
     with pytest.raises(SourceChanged, match="has 19 tiles where it had 20 when the run began"):
         it.run(source.partitions(0, 1000))
+
+
+def test_many_mended_tiles_go_on_in_parts(tmp_path: pathlib.Path, monkeypatch: pytest.MonkeyPatch) -> None:
+    """Bytes of mended tiles are returned for few tiles at a time. That there are too many is an answer, which isn't asked for again."""
+    bow = layer("a", 2, block(2, b"\x18\x03\x22\x0b\x09\x00\x10\x1a\x14\x0f\x00\x14\x13\x13\x0f"))
+    source = open_source(str(write_database(tmp_path / "tiles", [Tile(6, 1, row, bow) for row in range(32)])))
+    [extent] = source.survey()
+    task = Task(source.path, source.stamp(), extent, "polygon", False, mvtgate.version(), is_mending=True)
+    payload = len(mend(mvtgate.Profile.POLYGON, False, Address(6, 1, 0), bow, bow)[1])
+    monkeypatch.setattr(work, "_MOST_MENDED", 3 * payload)
+
+    def answer(future: Future) -> None:
+        future.end(work.judge(*future.words) if future.partition else ("b", [True] * len(future.words[1].unconfirmed)))
+
+    client, journal = Client(answer, ["a", "b"]), Journal(str(tmp_path / "journal.jsonl"), {"format": FORMAT, "began": ""})
+    Schedule(client, lambda _: task, journal, lambda _: None).run(source.partitions(0, 1000))
+    asked = [it.partition.tiles for it in client.asked if it.partition]
+    assert asked == [32, *[2] * 16] and journal.tiles == 32 and len(journal.partitions()) == 16
+    assert all(it.is_mended for partition in journal.partitions() for it in journal.judged(partition).findings)
 
 
 def test_other_errors_are_told(tmp_path: pathlib.Path) -> None:
