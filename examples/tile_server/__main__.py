@@ -6,7 +6,7 @@ import logging
 import pathlib
 import socket
 import sys
-from typing import Dict, List, Optional
+from typing import Callable, Dict, List, Optional
 
 import mvtgate
 import psycopg2  # type: ignore[import]
@@ -26,12 +26,24 @@ from .tiles import Tiles
 _PROFILES = {"polygon": mvtgate.Profile.POLYGON, "feature": mvtgate.Profile.FEATURE}
 
 
-def _seconds(word: str) -> float:
+def seconds(word: str) -> float:
     """A time that a query may take. (To PostgreSQL no milliseconds are no bound.)"""
-    seconds = float(word)
-    if not 0.001 <= seconds <= 86400:
-        raise ValueError
-    return seconds
+    number = float(word)
+    if not 0.001 <= number <= 86400:
+        raise argparse.ArgumentTypeError(f"{word} is not from 0.001 to 86400")
+    return number
+
+
+def within(least: int, most: int) -> Callable[[str], int]:
+    """What reads a whole number of a range."""
+
+    def number(word: str) -> int:
+        it = int(word)
+        if not least <= it <= most:
+            raise argparse.ArgumentTypeError(f"{it} is not from {least} to {most}")
+        return it
+
+    return number
 
 
 def arguments() -> argparse.ArgumentParser:
@@ -39,7 +51,7 @@ def arguments() -> argparse.ArgumentParser:
     reader = argparse.ArgumentParser(prog="python3 -m tile_server", description="Serves vector tiles that passed the gate.")
     reader.add_argument("--dsn", required=True, help="the database, such as 'host=/run/postgresql dbname=map'")
     reader.add_argument("--host", default="127.0.0.1", help="the address to listen on (%(default)s)")
-    reader.add_argument("--port", type=int, default=8080, help="the port (%(default)s); 0 takes a free one")
+    reader.add_argument("--port", type=within(0, 65535), default=8080, help="the port (%(default)s); 0 takes a free one")
     reader.add_argument("--public-url", metavar="URL", help="what /tiles.json has before /tiles (the client's own address)")
     reader.add_argument("--allow-origin", metavar="ORIGIN", default="*", help="whose scripts may read the tiles (%(default)s)")
     reader.add_argument("--profile", choices=_PROFILES, default="polygon", help="what polygons are held against (%(default)s)")
@@ -49,11 +61,11 @@ def arguments() -> argparse.ArgumentParser:
     reader.add_argument("--report-only", action="store_true", help="send a tile that stays faulty all the same, and tell of its fault")
     reader.add_argument("--no-gate", action="store_true", help="send tiles unjudged, to measure what the gate costs")
     reader.add_argument("--keep", type=pathlib.Path, metavar="FOLDER", help="leave faulty tiles here")
-    reader.add_argument("--workers", type=int, default=4, help="how many tiles are made at one time (%(default)s)")
-    reader.add_argument("--max-bytes", type=int, default=2**20, help="the longest tile that is judged (%(default)s)")
-    reader.add_argument("--max-zoom", type=int, default=22, help="the greatest zoom (%(default)s)")
-    reader.add_argument("--max-age", type=int, default=300, help="how many seconds a cache may keep a tile (%(default)s)")
-    reader.add_argument("--query-seconds", type=_seconds, default=10.0, help="how long a query may take (%(default)s)")
+    reader.add_argument("--workers", type=within(1, 1000), default=4, help="how many tiles are made at one time (%(default)s)")
+    reader.add_argument("--max-bytes", type=within(0, 2**31), default=2**20, help="the longest tile that is judged (%(default)s)")
+    reader.add_argument("--max-zoom", type=within(0, 30), default=22, help="the greatest zoom (%(default)s)")
+    reader.add_argument("--max-age", type=within(0, 2**31), default=300, help="how many seconds a cache may keep a tile (%(default)s)")
+    reader.add_argument("--query-seconds", type=seconds, default=10.0, help="how long a query may take (%(default)s)")
     return reader
 
 
@@ -104,13 +116,13 @@ def main(words: Optional[List[str]] = None) -> int:
     try:
         if said.keep:
             said.keep.mkdir(parents=True, exist_ok=True)
-        listening = socket.create_server((said.host, said.port))
+        listening = socket.create_server((said.host, said.port), family=socket.AF_INET6 if ":" in said.host else socket.AF_INET)
         served = application_of(said)
     except (OSError, psycopg2.Error) as error:
         print(f"tile_server: {str(error).strip()}", file=sys.stderr)
         return 1
     host, port = listening.getsockname()[:2]
-    print(f"listening on http://{host}:{port}", flush=True)
+    print(f"listening on http://{f'[{host}]' if ':' in host else host}:{port}", flush=True)
     web.run_app(served, sock=listening, print=lambda *_: None, access_log=None)
     return 0
 

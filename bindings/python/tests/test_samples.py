@@ -2,6 +2,7 @@
 from __future__ import annotations
 
 import json
+import pathlib
 from typing import Any, Dict, List
 
 import pytest
@@ -31,6 +32,24 @@ def test_check_and_confirm(sample: Sample, profile: Profile) -> None:
     assert not mvtgate.confirm(b"\x1a\x05\x78\x02\x0a\x01a", fault, profile)
     assert mvtgate.Fault.from_text(fault.text) == fault
     assert fault.members == json.loads(fault.text)
+
+
+@pytest.mark.parametrize("path", sorted((TOP / "tiles/expected").glob("*.fields")), ids=lambda it: str(it.stem))
+def test_reader_of_outermost_fields(path: pathlib.Path) -> None:
+    """That of tiles/check_folder, by which the program's are compared where no line is given."""
+    tile, line = (TOP / f"tiles/{path.stem}.mvt").read_bytes(), path.read_text().removesuffix("\n")
+    if line.startswith('{"fields":'):
+        assert reader.outermost(tile) == line
+        return
+    with pytest.raises(ValueError):
+        reader.outermost(tile)
+
+
+def test_reader_without_a_line_of_advice(tmp_path: pathlib.Path) -> None:
+    """It says so of the tile, and goes on with the others."""
+    assert "advice can't be read" in reader.wrong_advice(tmp_path / "none.mvt", YES, [])
+    (tmp_path / "other.json").write_text('{"check":[]}')
+    assert "advice can't be read" in reader.wrong_advice(tmp_path / "other.mvt", YES, [])
 
 
 @each_sample

@@ -140,6 +140,45 @@ def test_texts_of_another_form(text: str) -> None:
         Fault.from_text(text)
 
 
+PLAIN = '{"code":201,"layer":0}'
+ENCODED = [PLAIN.encode(it) for it in ("utf-8-sig", "utf-16", "utf-16-le", "utf-16-be", "utf-32", "utf-32-le", "utf-32-be")]
+
+
+@pytest.mark.parametrize("text", [*ENCODED, f"\ufeff{PLAIN}", PLAIN.encode() + b"\xff", b""], ids=str)
+def test_texts_that_are_no_utf_8(text: Any) -> None:
+    """JSON that programs exchange is UTF-8 and has no byte order mark (RFC 8259 section 8.1)."""
+    with pytest.raises(mvtgate.NotAFault, match="not JSON"):
+        Fault.from_text(text)
+
+
+def test_kinds_of_texts() -> None:
+    wanted = Fault.from_text(PLAIN)
+    assert Fault.from_text(PLAIN.encode()) == wanted and wanted.text == PLAIN
+    others: List[Any] = [None, 5, memoryview(PLAIN.encode()), {"code": 201, "layer": 0}]
+    for it in others:
+        with pytest.raises(TypeError):
+            Fault.from_text(it)
+
+
+@pytest.mark.parametrize("other", ["1", "-0", "1.5", "null", '"\\u00e4"', '{"layer":[]}', "9" * 300])
+def test_of_equal_keys_the_last_counts(other: str) -> None:
+    """Whatever the one before has, as long as it is JSON."""
+    assert Fault.from_text(f'{{"code":504,"code":201,"layer":{other},"layer":0}}').text == PLAIN
+    text = f'{{"code":201,"layer":0,"layer":{other}}}'
+    if other == "1":
+        assert Fault.from_text(text).layer == 1
+        return
+    with pytest.raises(mvtgate.NotAFault):
+        Fault.from_text(text)
+
+
+@pytest.mark.parametrize("other", ["NaN", "-Infinity", "1e999", "9" * 400, "9" * 5000, '"\\ud800"', '{"\\udfff":0}', '"\ud800"', "01", "'a'"], ids=lambda it: ascii(it[:20]))
+def test_no_json_before_an_equal_key(other: str) -> None:
+    """No part of a text may be other than JSON of texts and of numbers that doubles come near (RFC 8259 sections 6 to 8)."""
+    with pytest.raises(mvtgate.NotAFault, match="not JSON"):
+        Fault.from_text(f'{{"code":201,"layer":{other},"layer":0}}')
+
+
 @pytest.mark.parametrize("number", ["5", "1.5", "+1", "01", "-0", "", " 1", str(2**127)])
 def test_points_of_another_form(number: str) -> None:
     members = json.loads((TOP / "tiles/expected/crossing_edges.check").read_text())

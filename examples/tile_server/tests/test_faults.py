@@ -3,6 +3,7 @@ from __future__ import annotations
 
 import json
 import pathlib
+import socket
 import subprocess
 import sys
 from fractions import Fraction
@@ -134,10 +135,24 @@ def test_without_the_gate_all_is_sent(ungated: Server) -> None:
         (["--drop"], "only with --mend"),
         (["--drop", "--report-only"], "only with --mend"),
         (["--repair"], "unrecognized arguments"),
-        (["--query-seconds", "0"], "--query-seconds: invalid"),
+        (["--query-seconds", "0"], "--query-seconds: 0 is not from 0.001 to 86400"),
+        (["--port", "65536"], "--port: 65536 is not from 0 to 65535"),
+        (["--workers", "0"], "--workers: 0 is not from 1 to 1000"),
+        (["--max-age", "-1"], "--max-age: -1 is not from 0"),
     ],
 )
 def test_words_that_are_no_call(database: Database, words: List[str], told: str) -> None:
     command = [sys.executable, "-m", "tile_server", "--dsn", database.dsn, *words]
     run = subprocess.run(command, capture_output=True, text=True)
     assert run.returncode == 2 and told in run.stderr
+
+
+def test_address_of_ipv6() -> None:
+    """It is listened on before the database is asked, which isn't there."""
+    try:
+        socket.create_server(("::1", 0), family=socket.AF_INET6).close()
+    except OSError:
+        pytest.skip("this machine has no ::1")
+    command = [sys.executable, "-m", "tile_server", "--dsn", "host=/nowhere dbname=map", "--host", "::1", "--port", "0"]
+    run = subprocess.run(command, capture_output=True, text=True)
+    assert run.returncode == 1 and "/nowhere/" in run.stderr

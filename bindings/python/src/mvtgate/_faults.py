@@ -2,10 +2,11 @@
 from __future__ import annotations
 
 import json
+import math
 import re
 from dataclasses import dataclass
 from fractions import Fraction
-from typing import Any, Dict, Mapping, Optional, Tuple, Union
+from typing import Any, Dict, List, Mapping, Optional, Tuple, Union
 
 from . import _words
 
@@ -82,10 +83,34 @@ def _member(key: str, it: Any) -> Any:
     return RingEdge(**it) if isinstance(it, dict) else it
 
 
-def _no_minus_zero(digits: str) -> int:
-    if digits == "-0":
-        raise ValueError(digits)
-    return int(digits)
+def _double(digits: str) -> float:
+    """ValueError for what is no number, NaN too, and for one that no double comes near."""
+    number = float(digits)
+    if not math.isfinite(number):
+        raise ValueError(f"{digits[:20]} is out of the range of numbers")
+    return number
+
+
+def _whole(digits: str) -> Union[int, float]:
+    """A number without a fraction. (-0 is none of those that a fault has.)"""
+    number = _double(digits)
+    return number if digits == "-0" else int(digits)
+
+
+def _object(pairs: List[Tuple[str, Any]]) -> Dict[str, Any]:
+    """The members of an object: of equal keys the last counts. ValueError where there is half a surrogate pair, also in one that doesn't."""
+    for it in (half for pair in pairs for half in pair if isinstance(half, str)):
+        it.encode()
+    return dict(pairs)
+
+
+def _denoted(text: Union[str, bytes]) -> Any:
+    """What a text denotes, as the program reads it: JSON in UTF-8 (RFC 8259). ValueError where it is none."""
+    if not isinstance(text, (str, bytes, bytearray)):
+        raise TypeError(f"a fault's text is a str or bytes, not {type(text).__name__}")
+    # (of bytes json would take UTF-16, too, and a byte order mark)
+    plain = str(text.encode() if isinstance(text, str) else text, "utf-8")
+    return json.loads(plain, parse_int=_whole, parse_float=_double, parse_constant=_double, object_pairs_hook=_object)
 
 
 @dataclass(frozen=True)
@@ -120,10 +145,11 @@ class Fault:
     def from_text(cls, text: Union[str, bytes]) -> Fault:
         """The fault of a text, such as a line of `mvtgate check` that was kept. NotAFault where it is none.
 
-        Spaces and the order of the keys don't matter; `text` of the fault is the one that `check` would write.
+        Bytes are UTF-8 without a byte order mark. Spaces and the order of the keys don't matter, and of equal keys the last counts;
+        `text` of the fault is the one that `check` would write.
         """
         try:
-            members = json.loads(text, parse_int=_no_minus_zero)
+            members = _denoted(text)
         except (ValueError, RecursionError) as error:
             raise NotAFault(f"the text is not JSON, or has a number that no fault has: {error}") from None
         if not _is_fault(members):

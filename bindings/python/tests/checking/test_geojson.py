@@ -48,6 +48,21 @@ def test_files_and_archives(tmp_path: pathlib.Path, jobs: int) -> None:
     assert found["5/16/11"]["properties"]["source"] == str(where / "5/16/11.pbf.gz") and found["5/16/11"]["properties"]["code"] == 302
 
 
+def test_extent_of_0(tmp_path: pathlib.Path) -> None:
+    """Where the layer says so there is no point, and the fault has its tile's box; any other extent counts as it is."""
+    layer = b"\x78\x02\x0a\x01a\x12\x0f\x18\x03\x22\x0b\x09\x00\x10\x1a\x14\x0f\x00\x14\x13\x13\x0f"
+    (tmp_path / "1/0").mkdir(parents=True)
+    for row, extent in enumerate((b"\x28\x00", b"\x28\x0a")):
+        (tmp_path / f"1/0/{row}.mvt").write_bytes(b"\x1a" + bytes([len(layer + extent)]) + layer + extent)
+    said = run("--geojson", tmp_path / "it.geojson", tmp_path)
+    assert said.returncode == 1, said.stderr
+    box, point = (it["geometry"] for it in features(tmp_path / "it.geojson"))
+    assert box["type"] == "Polygon" and box["coordinates"][0][0][0] == -180.0 and box["coordinates"][0][2][0] == 0.0
+    # (the edges y = 8 - 4x/5 and y = x meet at (40/9, 40/9), of the tile in the south-west with a width of 10)
+    wanted = [4 / 9 * 180 - 180, math.degrees(math.atan(math.sinh(-math.pi * 4 / 9)))]
+    assert point["type"] == "Point" and all(abs(a - b) < 2e-9 for a, b in zip(point["coordinates"], wanted))
+
+
 ADDRESSES: List[Tuple[str, Optional[str], Optional[Tuple[int, int, int]]]] = [
     ("5/16/10.mvt", None, (5, 16, 10)), ("/a/b/5/16/10.pbf.zst", None, (5, 16, 10)), ("tiles/5/16/10", None, (5, 16, 10)),
     ("v1/5/16/10.mvt.gz", None, (5, 16, 10)), ("2/5/16/10.mvt", None, (5, 16, 10)), ("it.mbtiles", "5/99/10", (5, 99, 10)),

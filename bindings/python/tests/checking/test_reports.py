@@ -142,6 +142,23 @@ def test_report_that_cannot_be_written(tmp_path: pathlib.Path) -> None:
         assert said.returncode == 3 and said.stderr == "mvtgate-check: /dev/full: No space left on device\n"
 
 
+@pytest.mark.parametrize("option", ["--junit", "--sarif", "--geojson"])
+def test_report_in_the_place_of_tiles(tmp_path: pathlib.Path, option: str) -> None:
+    """Where the report's name was left out, the next file isn't written over; nor one that is judged, also by another name, nor another report."""
+    names = ["a.mbtiles", "a.pmtiles", "a.mvt", "a.pbf.gz", "tile"]
+    for name in names:
+        (tmp_path / name).write_bytes(CROSSING.read_bytes())
+    (tmp_path / "link").symlink_to("tile")
+    tile = tmp_path / "tile"
+    for words in [*([option, tmp_path / name, tile] for name in names), [option, tmp_path / "link", tile], [option, tile, tmp_path / "link"]]:
+        said = run(*words)
+        assert said.returncode == 2 and f"{option} takes the name of a report" in said.stderr, said.stderr
+    other = "--sarif" if option == "--junit" else "--junit"
+    assert run(option, tmp_path / "report", other, tmp_path / "report", tile).returncode == 2
+    assert all((tmp_path / name).read_bytes() == CROSSING.read_bytes() for name in names)
+    assert run(option, os.devnull, other, os.devnull, tile).returncode == 1
+
+
 def test_no_reader_finds_half_a_report(folder: pathlib.Path, tmp_path: pathlib.Path) -> None:
     """Where a run doesn't end its reports are empty, and the earlier ones are gone."""
     reports = [tmp_path / "it.xml", tmp_path / "it.sarif"]

@@ -1,6 +1,7 @@
 """Where mvtgate-check finds tiles: files, folders, MBTiles files, standard input; and what it says where there are none."""
 from __future__ import annotations
 
+import gc
 import gzip
 import os
 import pathlib
@@ -19,6 +20,8 @@ from mvtgate.checking import sources
 from mvtgate.checking.answers import Answer
 from mvtgate.checking.judging import Settings, verdicts_of
 from mvtgate.checking.pieces import Files, Piece
+from planet.helpers.archives import write_archive
+from planet.helpers.runs import Tile
 
 FAULT = CROSSING.read_bytes()
 VALID = POINT.read_bytes()
@@ -226,6 +229,22 @@ def test_many_tiles_of_mbtiles(tmp_path: pathlib.Path) -> None:
         said = run("--json", "--jobs", jobs, path)
         assert last_line(said) == "1200 tiles: 1188 valid, 12 with a fault"
         assert {it["tile"] for it in json_lines(said.stdout)} == {f"9/{column}/{row}" for column in range(4) for row in (0, 100, 200)}
+
+
+@pytest.mark.parametrize("ending", ["mbtiles", "pmtiles"])
+def test_many_archives(tmp_path: pathlib.Path, ending: str) -> None:
+    """Those that are done with are closed at once, so that a folder may have more of them than files may be open."""
+    for number in range(20):
+        path = tmp_path / f"{number}.{ending}"
+        mbtiles(path, {(0, 0, 0): FAULT}) if ending == "mbtiles" else write_archive(path, [Tile(0, 0, 0, FAULT)])
+    gc.disable()
+    try:
+        before = len(os.listdir("/proc/self/fd"))
+        assert [it.fault and it.fault.code for piece in sources.pieces_of([str(tmp_path)]) for it in answers_of(piece)] == [504] * 20
+        # (a few that may have more pieces are kept)
+        assert len(os.listdir("/proc/self/fd")) <= before + 4
+    finally:
+        gc.enable()
 
 
 def broken_archives(folder: pathlib.Path) -> Iterator[Tuple[pathlib.Path, str]]:

@@ -18,6 +18,7 @@ from typing import Generator, Iterator, List, Optional
 
 import mvtgate
 
+from .._files import is_named_as_tiles
 from .answers import Verdict
 from .counts import Counts
 from .judging import Settings, verdicts_of
@@ -25,7 +26,7 @@ from .geojson import GeoJson
 from .junit import Junit
 from .lines import PROGRAM, Lines, have_errors, tell
 from .mending import Copies, NoFolder
-from .names import INPUT
+from .names import INPUT, on_one_line
 from .processes import WorkerGone, verdicts_by
 from .progress import Bar, tqdm_of_terminal
 from .report import Report, naming
@@ -71,6 +72,21 @@ def arguments() -> argparse.ArgumentParser:
     return reader
 
 
+def _wrong_report(said: argparse.Namespace) -> Optional[str]:
+    """Which report would be written over tiles, since its name was left out, say, or over another report. None where none would."""
+    taken = {os.path.realpath(it) for it in said.file}
+    for option in ("--junit", "--sarif", "--geojson"):
+        path: Optional[str] = getattr(said, option[2:])
+        if path is None:
+            continue
+        # (devices may be named again)
+        there = os.path.realpath(path)
+        if is_named_as_tiles(path) or (there in taken and (os.path.isfile(there) or not os.path.exists(there))):
+            return f"{option} takes the name of a report, and {on_one_line(path)} is another file's"
+        taken.add(there)
+    return None
+
+
 def read_words(words: List[str]) -> argparse.Namespace:
     """What the words say. Files and options may stand in any order, and after `--` there are only files."""
     reader = arguments()
@@ -79,6 +95,9 @@ def read_words(words: List[str]) -> argparse.Namespace:
     said.file += words[end + 1 :]
     if not said.file:
         reader.error("no FILE is named")
+    wrong = _wrong_report(said)
+    if wrong is not None:
+        reader.error(wrong)
     if said.drop and said.mend is None:
         reader.error("--drop is for --mend")
     if said.mend is not None and INPUT in said.file:

@@ -4,12 +4,13 @@ Nothing is kept of what was found but the names in one folder at a time.
 """
 from __future__ import annotations
 
+import contextlib
 import os
 import stat
 import sys
 from typing import Iterable, Iterator, List, NamedTuple, Set, Union
 
-from .._files import ENDINGS, LIMIT
+from .._files import ARCHIVES, ENDINGS, LIMIT
 from ..planet.sources import NotASource, SourceChanged, open_source
 from ..planet.sources.pmtiles import MAGIC, is_address
 from .names import INPUT
@@ -18,11 +19,10 @@ from .pieces import ArchivePart, Failed, Files, Given, Piece, reason
 # how many tiles a piece has at most: few, so that each of several processes has its share of a small folder
 _MOST_FILES = 8
 _MOST_IN_ARCHIVE = 32
-_ARCHIVES = (".mbtiles", ".pmtiles")
 _SQLITE = b"SQLite format 3\0"
 # (the header of a PMTiles archive)
 _HEAD = 127
-_WANTED = (*ENDINGS, *_ARCHIVES)
+_WANTED = (*ENDINGS, *ARCHIVES)
 
 # (a text is the path of a file with one tile)
 Found = Union[str, Piece]
@@ -104,19 +104,20 @@ def _of_folder(folder: str) -> Iterator[Found]:
 def _of_archive(path: str) -> Iterator[Found]:
     """An MBTiles file or a PMTiles archive. Its faults name tiles by z/x/y."""
     try:
-        source = open_source(path)
-        stamp = source.stamp()
-        if not source.survey():
-            raise NotASource("it has no tiles")
-        for partition in source.partitions(0, _MOST_IN_ARCHIVE):
-            source.check(stamp)
-            yield ArchivePart(path, stamp, partition)
+        # (there may be more archives than files that may be open)
+        with contextlib.closing(open_source(path)) as source:
+            stamp = source.stamp()
+            if not source.survey():
+                raise NotASource("it has no tiles")
+            for partition in source.partitions(0, _MOST_IN_ARCHIVE):
+                source.check(stamp)
+                yield ArchivePart(path, stamp, partition)
     except (NotASource, SourceChanged, OSError) as error:
         yield Failed(path, reason(path, error))
 
 
 def _of_file(path: str) -> Iterator[Found]:
-    if path.endswith(_ARCHIVES):
+    if path.endswith(ARCHIVES):
         yield from _of_archive(path)
     else:
         yield path

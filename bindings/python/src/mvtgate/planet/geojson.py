@@ -29,8 +29,8 @@ class Address(NamedTuple):
 
 
 def point_of(fault: Mapping[str, Any], address: Address, subject: Subject) -> Optional[List[float]]:
-    """Longitude and latitude of the point at which a fault is. None where it has none."""
-    if not all(key in fault for key in ("x", "y", "w")):
+    """Longitude and latitude of the point at which a fault is. None where it has none, or its layer's extent is 0: then it is nowhere."""
+    if subject.extent == 0 or not all(key in fault for key in ("x", "y", "w")):
         return None
     x, y, w = (int(fault[key]) for key in ("x", "y", "w"))
     return list(lon_lat(*address, Fraction(x, w), Fraction(y, w), subject.extent))

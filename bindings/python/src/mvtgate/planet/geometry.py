@@ -3,7 +3,7 @@ from __future__ import annotations
 
 from typing import Iterator, List, Optional, Tuple
 
-from .wire import GEOMETRY, nth, numbers
+from .wire import GEOMETRY, repeated
 
 Position = Tuple[int, int]
 _MOVE_TO, _LINE_TO, _CLOSE_PATH = 1, 2, 7
@@ -11,8 +11,7 @@ _MOVE_TO, _LINE_TO, _CLOSE_PATH = 1, 2, 7
 
 def _steps(feature: memoryview) -> Iterator[Tuple[int, int, int]]:
     """The command and the position of each step, up to the first one that can't be read."""
-    packed = nth(feature, GEOMETRY, 0)
-    left = iter(() if packed is None else numbers(packed))
+    left = repeated(feature, GEOMETRY)
     x = y = 0
     for number in left:
         command, count = number & 7, number >> 3

@@ -34,10 +34,16 @@ def _latitude(above: float) -> float:
 
 
 def bounds(zoom: int, column: int, row: int, box: Tuple[int, int, int, int], extent: int) -> List[float]:
-    """West, south, east and north of a part of a tile, given by its least and greatest coordinates."""
+    """West, south, east and north of a part of a tile, given by its least and greatest coordinates.
+
+    Across the 180th degree west is greater than east (RFC 7946 section 5.2), but for what goes all around the earth.
+    """
     least_x, least_y, greatest_x, greatest_y = box
     west, north = lon_lat(zoom, column, row, least_x, least_y, extent)
     east, south = lon_lat(zoom, column, row, greatest_x, greatest_y, extent)
+    # (as at zoom 0, with the buffer)
+    if greatest_x - least_x >= extent << zoom:
+        west, east = -180.0, 180.0
     return [west, south, east, north]
 
 

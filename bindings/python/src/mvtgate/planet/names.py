@@ -3,10 +3,10 @@ from __future__ import annotations
 
 import codecs
 import itertools
-from typing import NamedTuple, Optional, Tuple
+from typing import NamedTuple, Optional
 
 from .._faults import Fault
-from .wire import EXTENT, FEATURE, ID, LAYER, NAME, nth, number_of, payloads
+from .wire import EXTENT, FEATURE, ID, LAYER, NAME, number_of, payloads
 
 # (bytes of a name that are kept; a tile may have one of megabytes)
 _LONGEST_NAME = 200
@@ -15,7 +15,7 @@ _decoder = codecs.getincrementaldecoder("utf-8")
 
 
 def _name_of(layer: memoryview) -> Optional[str]:
-    raw = nth(layer, NAME, 0)
+    raw = next((it for it in payloads(layer, NAME) if isinstance(it, memoryview)), None)
     if raw is None:
         return None
     is_whole = len(raw) <= _LONGEST_NAME
@@ -24,21 +24,9 @@ def _name_of(layer: memoryview) -> Optional[str]:
     return name if is_whole else f"{name}…"
 
 
-def names_of(tile: bytes, fault: Fault) -> Tuple[Optional[str], Optional[int]]:
-    """The name of the layer and the id of the feature that a fault names. None for what the fault doesn't name or the tile hasn't.
-
-    This decides nothing, so it takes of bytes that are no tile what can be read.
-    """
-    # (a name that two layers have is that of the first)
-    index = fault.layer if fault.layer is not None else fault.first
-    if not isinstance(index, int):
-        return None, None
-    layer = nth(memoryview(tile), LAYER, index)
-    if layer is None:
-        return None, None
-    name = _name_of(layer)
-    feature = nth(layer, FEATURE, fault.feature) if fault.feature is not None else None
-    return name, None if feature is None else _id_of(feature)
+def _extent_of(layer: memoryview) -> int:
+    found = number_of(layer, EXTENT)
+    return _USUAL_EXTENT if found is None else found
 
 
 def _id_of(feature: memoryview) -> Optional[int]:
@@ -72,7 +60,10 @@ class Subject(NamedTuple):
 
 
 class Names:
-    """The same for many faults of one tile, in the order of faults, by two walks over it: for those of layers, and of features."""
+    """What faults of one tile are about, in the order of faults, by two walks over it: for those of layers, and of features.
+
+    This decides nothing, so it takes of bytes that are no tile what can be read.
+    """
 
     def __init__(self, tile: bytes) -> None:
         self._tile = memoryview(tile)
@@ -81,12 +72,8 @@ class Names:
         self._layer = Subject()
         self._features: Optional[_Walk] = None
 
-    def of(self, fault: Fault) -> Tuple[Optional[str], Optional[int]]:
-        """What `names_of` says of the fault."""
-        return self.subject_of(fault)[:2]
-
     def subject_of(self, fault: Fault) -> Subject:
-        """What a fault is about."""
+        """What a fault is about, as far as it names it and the tile has it."""
         # (of two layers with one name the second one, since the order goes by it)
         index = fault.second if fault.code == 202 else fault.layer
         return self.subject(index, fault.feature) if isinstance(index, int) else Subject()
@@ -104,4 +91,4 @@ class Names:
         self._at = index
         layer = self._layers.at(index)
         self._features = None if layer is None else _Walk(layer, FEATURE)
-        self._layer = Subject() if layer is None else Subject(_name_of(layer), extent=number_of(layer, EXTENT) or _USUAL_EXTENT)
+        self._layer = Subject() if layer is None else Subject(_name_of(layer), extent=_extent_of(layer))

@@ -12,6 +12,7 @@ from typing import Any, Dict, Iterator, List, Optional, Tuple
 
 import mvtgate
 
+from .._files import is_named_as_tiles
 from .attendance import Attendance
 from .cluster import client_of
 from .endings import Refused, ending_of
@@ -161,7 +162,10 @@ class Run:
         return Journal(path, self._members, self.settings.is_anew, seconds, self._begin)
 
     def _expect_folders(self) -> None:
-        """What is written at the end has to have its folder from the beginning, lest all is judged for nothing."""
+        """What is written at the end has to have its folder from the beginning, lest all is judged for nothing, and takes no other's place."""
+        since = self.settings.since
+        if since is not None and os.path.realpath(since) == os.path.realpath(self.settings.output):
+            raise Refused(f"{since}: the earlier run stays, so this one needs another --output")
         for path in filter(None, (self.settings.junit, self.settings.mend)):
             folder = os.path.dirname(os.path.abspath(path))
             if not (os.path.isdir(folder) and os.access(folder, os.W_OK | os.X_OK)):
@@ -169,6 +173,8 @@ class Run:
         junit = self.settings.junit
         if junit is not None and (os.path.isdir(junit) or not os.path.basename(junit)):
             raise Refused(f"{junit}: the report is a file, and this is the name of a folder")
+        if junit is not None and (is_named_as_tiles(junit) or os.path.realpath(junit) in (os.path.realpath(it.path) for it in self._sources)):
+            raise Refused(f"{junit}: --junit takes the name of a report, and this is that of tiles")
 
     def _begin(self) -> None:
         """Before a run begins, and not where it goes on."""

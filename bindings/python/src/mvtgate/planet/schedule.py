@@ -24,7 +24,7 @@ from .journal import Journal
 from .records import Judged, Partition
 from .since import Known
 from .sources import SourceChanged
-from .work import Task, UnfitWorker, confirm, judge
+from .work import Task, TooManyMended, UnfitWorker, confirm, judge
 
 # partitions under way for each thread of a worker, and parts of one that can't be done
 _WINDOW = 4
@@ -112,7 +112,8 @@ class Schedule:
             return
         self._expect_scheduler()
         try:
-            workers = self._client.scheduler_info()["workers"]
+            # (later versions of Dask tell of five workers alone, unless they are asked for all)
+            workers = self._client.scheduler_info(n_workers=-1)["workers"]
             self._threads = {address: it["nthreads"] for address, it in workers.items()}
             self._ask_new_workers()
         except OSError:
@@ -203,6 +204,7 @@ class Schedule:
         it = self._under_way.pop(future, None)
         if it is None:
             return
+        error = result if isinstance(result, TooManyMended) else error
         if error is None:
             self._take(it, result)
         elif future.status == "cancelled":
@@ -252,8 +254,13 @@ class Schedule:
             self._on_done(it.partition)
 
     def _parts(self, partition: Partition) -> List[Partition]:
+        """Its parts. SourceChanged where they haven't all of its tiles, since some came or went, of which no worker could tell."""
         source = self._task_of(partition).source()
-        return list(source.split(partition, -(-partition.tiles // _PARTS)))
+        parts = list(source.split(partition, -(-partition.tiles // _PARTS)))
+        tiles = sum(it.tiles for it in parts)
+        if tiles != partition.tiles:
+            raise SourceChanged(f"{source.path} has {tiles} tiles where it had {partition.tiles} when the run began")
+        return parts
 
 
 def _is_ended(error: BaseException) -> bool:

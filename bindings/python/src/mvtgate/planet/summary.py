@@ -45,7 +45,8 @@ def summary_of(run: Dict[str, Any], counts: Counts, report: Report, seconds: flo
     if report.changes is not None:
         it["mended"] = vars(report.changes.totals)
     if report.difference is not None:
-        it["since"] = {"run": report.difference.folder, "judged": counts.tiles - report.totals.reused, **report.difference.counts}
+        judged = counts.tiles - report.totals.reused - counts.failed
+        it["since"] = {"run": report.difference.folder, "judged": judged, **report.difference.counts}
     return it
 
 

@@ -30,6 +30,9 @@ class Ranges:
 
     def southern_rows(self, zoom: int) -> Tuple[int, int]:
         """The first and last row as MBTiles count them, from the south."""
+        # (all that a database may have, which another count would make fewer)
+        if (self.first_row, self.last_row) == (_LEAST, _GREATEST):
+            return _LEAST, _GREATEST
         turned = ((1 << zoom) - 1 - it for it in (self.last_row, self.first_row))
         first, last = (max(_LEAST, min(_GREATEST, it)) for it in turned)
         return first, last

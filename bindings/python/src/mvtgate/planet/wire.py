@@ -4,8 +4,7 @@ This decides nothing, so it takes of bytes that are no tile what can be read.
 """
 from __future__ import annotations
 
-import itertools
-from typing import Iterator, List, Optional, Tuple, Union
+from typing import Iterator, Optional, Tuple, Union
 
 # fields of the messages of a tile (MVT 2.1 section 4)
 LAYER, NAME, FEATURE, EXTENT, ID, GEOMETRY = 3, 1, 2, 5, 1, 4
@@ -52,24 +51,24 @@ def payloads(message: memoryview, number: int) -> Iterator[Union[int, memoryview
         return
 
 
-def nth(message: memoryview, number: int, index: int) -> Optional[memoryview]:
-    """The payload of the field that occurs `index` times before it."""
-    found = (it for it in payloads(message, number) if isinstance(it, memoryview))
-    return next(itertools.islice(found, index, None), None)
-
-
 def number_of(message: memoryview, number: int) -> Optional[int]:
     """The first number of a field."""
     return next((it for it in payloads(message, number) if isinstance(it, int)), None)
 
 
-def numbers(packed: memoryview) -> List[int]:
-    """The numbers of a packed field, up to the first one that can't be read."""
-    found, at = [], 0
-    try:
-        while at < len(packed):
-            value, at = varint(packed, at)
-            found.append(value)
-    except IndexError:
-        pass
-    return found
+def repeated(message: memoryview, number: int) -> Iterator[int]:
+    """The numbers of a repeated field, up to the first one that can't be read.
+
+    Each occurrence may be packed or a single number, and they are joined in their order (Protocol Buffers encoding).
+    """
+    for it in payloads(message, number):
+        if isinstance(it, int):
+            yield it
+            continue
+        at = 0
+        try:
+            while at < len(it):
+                value, at = varint(it, at)
+                yield value
+        except IndexError:
+            return

@@ -10,7 +10,7 @@ import json
 import sys
 import time
 from dataclasses import asdict, dataclass
-from typing import Any, Dict, Iterator, List, Optional, Tuple
+from typing import Any, Dict, Iterator, List, Optional, Tuple, Union
 
 import mvtgate
 
@@ -225,14 +225,17 @@ class _Judging:
         return self.judged
 
 
-def judge(task: Task, partition: Partition, known: Optional[Known] = None) -> Judged:
+def judge(task: Task, partition: Partition, known: Optional[Known] = None) -> Union[Judged, TooManyMended]:
     """Judges all tiles of a partition, but for those of which an earlier run knows. SourceChanged where there are more or fewer than
-    there were."""
+    there were. TooManyMended is returned: what is raised would be tried again."""
     source = task.source()
     judging = _Judging(task, partition, known)
     began = time.thread_time_ns()
-    for stored in source.tiles(partition):
-        judging.add(stored)
+    try:
+        for stored in source.tiles(partition):
+            judging.add(stored)
+    except TooManyMended as error:
+        return error
     judging.judged.seconds = (time.thread_time_ns() - began) / 1e9
     task.check(source)
     if judging.count != partition.tiles:

@@ -195,6 +195,7 @@ def judged_line(folder: pathlib.Path, tiles: List[Tile], advice: bool = False) -
     [extent] = source.survey()
     [partition] = source.partitions(0, len(tiles))
     judged = judge(Task(str(path), source.stamp(), extent, "polygon", advice, mvtgate.version()), partition)
+    assert isinstance(judged, Judged)
     journal = opened(folder)
     journal.add(judged)
     journal.close()

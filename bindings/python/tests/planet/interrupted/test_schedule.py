@@ -11,13 +11,16 @@ from typing import Any, Callable, Dict, Generator, List, Optional, Tuple
 import pytest
 
 import mvtgate
-from mvtgate.planet import schedule
+from mvtgate.planet import schedule, work
+from mvtgate.planet.geojson import Address
 from mvtgate.planet.journal import FORMAT, Journal
+from mvtgate.planet.mending.tiles import mend
 from mvtgate.planet.records import Finding, Judged, Partition
 from mvtgate.planet.run import partition_of
 from mvtgate.planet.schedule import Schedule, Stopped
 from mvtgate.planet.sources import SourceChanged, open_source
 from mvtgate.planet.work import Task, UnfitWorker
+from planet.helpers.made import block, layer
 from planet.helpers.runs import INDEX, VALID, Tile, write_database
 
 FAULT = {"code": 201, "layer": 0}
@@ -68,10 +71,12 @@ class Client:
         self.look: Callable[[int], None] = lambda _: None
         self._answer = answer
 
-    def scheduler_info(self) -> Dict[str, Any]:
+    def scheduler_info(self, n_workers: int = 5) -> Dict[str, Any]:
+        """As Dask has it, of which later versions leave out all but some workers; a negative number is all."""
         self.looks += 1
         self.look(self.looks)
-        return {"workers": {address: {"nthreads": 1} for address in self.workers}}
+        told = self.workers if n_workers < 0 else self.workers[:n_workers]
+        return {"workers": {address: {"nthreads": 1} for address in told}}
 
     def run(self, call: Callable[[], str], workers: List[str], on_error: str) -> Dict[str, str]:
         """What each of these workers says, which are all of this process."""
@@ -150,7 +155,8 @@ def test_each_part_is_judged_and_confirmed(tmp_path: pathlib.Path) -> None:
     assert trial.schedule.most_workers == 3
 
 
-def test_few_are_under_way(tmp_path: pathlib.Path) -> None:
+@pytest.mark.parametrize("workers", ["ab", "abcdefgh"])
+def test_few_are_under_way(tmp_path: pathlib.Path, workers: str) -> None:
     """Four for each thread of a worker, however many there are."""
     waiting: List[Future] = []
     most = 0
@@ -165,10 +171,10 @@ def test_few_are_under_way(tmp_path: pathlib.Path) -> None:
             answered_by("a", "b", has_fault=False)(future)
         del waiting[:3]
 
-    trial = Trial(tmp_path, answer, ["a", "b"])
+    trial = Trial(tmp_path, answer, list(workers))
     trial.client.look = look
     trial.run(1)
-    assert most == 8
+    assert most == 4 * len(workers) and trial.schedule.most_workers == len(workers)
 
 
 def test_workers_that_come_later(tmp_path: pathlib.Path) -> None:
@@ -292,6 +298,44 @@ def test_tiles_at_one_place_end(tmp_path: pathlib.Path) -> None:
     killing(trial, [62], with_all=True)
     trial.run(6)
     assert [(it.first, it.tiles) for it, _ in trial.schedule.unjudged] == [((1, 62), 2)]
+
+
+def test_tiles_that_go_before_their_parts_are_made(tmp_path: pathlib.Path) -> None:
+    """Of a folder that is the only sign that it has changed: none is left out without a word."""
+    column = tmp_path / "tiles/6/1"
+    column.mkdir(parents=True)
+    for row in range(20):
+        (column / f"{row}.mvt").write_bytes(VALID)
+    source = open_source(str(tmp_path / "tiles"))
+    [extent] = source.survey()
+    task = Task(source.path, source.stamp(), extent, "polygon", False, mvtgate.version())
+
+    def answer(future: Future) -> None:
+        (column / "7.mvt").unlink(missing_ok=True)
+        future.end(error=KilledWorker())
+
+    it = Schedule(Client(answer, ["a", "b"]), lambda _: task, Journal(str(tmp_path / "journal.jsonl"), {"format": FORMAT, "began": ""}), lambda _: None)
+    with pytest.raises(SourceChanged, match="has 19 tiles where it had 20 when the run began"):
+        it.run(source.partitions(0, 1000))
+
+
+def test_many_mended_tiles_go_on_in_parts(tmp_path: pathlib.Path, monkeypatch: pytest.MonkeyPatch) -> None:
+    """Bytes of mended tiles are returned for few tiles at a time. That there are too many is an answer, which isn't asked for again."""
+    bow = layer("a", 2, block(2, b"\x18\x03\x22\x0b\x09\x00\x10\x1a\x14\x0f\x00\x14\x13\x13\x0f"))
+    source = open_source(str(write_database(tmp_path / "tiles", [Tile(6, 1, row, bow) for row in range(32)])))
+    [extent] = source.survey()
+    task = Task(source.path, source.stamp(), extent, "polygon", False, mvtgate.version(), is_mending=True)
+    payload = len(mend(mvtgate.Profile.POLYGON, False, Address(6, 1, 0), bow, bow)[1])
+    monkeypatch.setattr(work, "_MOST_MENDED", 3 * payload)
+
+    def answer(future: Future) -> None:
+        future.end(work.judge(*future.words) if future.partition else ("b", [True] * len(future.words[1].unconfirmed)))
+
+    client, journal = Client(answer, ["a", "b"]), Journal(str(tmp_path / "journal.jsonl"), {"format": FORMAT, "began": ""})
+    Schedule(client, lambda _: task, journal, lambda _: None).run(source.partitions(0, 1000))
+    asked = [it.partition.tiles for it in client.asked if it.partition]
+    assert asked == [32, *[2] * 16] and journal.tiles == 32 and len(journal.partitions()) == 16
+    assert all(it.is_mended for partition in journal.partitions() for it in journal.judged(partition).findings)
 
 
 def test_other_errors_are_told(tmp_path: pathlib.Path) -> None:

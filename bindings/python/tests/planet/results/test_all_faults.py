@@ -14,7 +14,7 @@ from conftest import SAMPLES
 from mvtgate import Fault, Profile
 from mvtgate.planet.further import Further, OneFault
 from mvtgate.planet.journal import Journal
-from mvtgate.planet.names import Names, names_of
+from mvtgate.planet.names import Names
 from mvtgate.planet.records import Finding, Judged, Partition
 from planet.helpers.made import MADE, SQUARES, layer, point
 from planet.helpers.planets import names_by_reader
@@ -156,15 +156,15 @@ def test_report_without_the_option_counts_tiles(database: pathlib.Path, tmp_path
 def test_names_in_one_walk(sample: Any) -> None:
     names = Names(sample.tile)
     for fault in mvtgate.faults(sample.tile, Profile.FEATURE):
-        assert names.of(fault) == names_of(sample.tile, fault)
+        assert names.subject_of(fault) == Names(sample.tile).subject_of(fault)
 
 
 def test_names_of_many_faults() -> None:
     tile = b"".join(layer(f"layer {at}", 1 + at % 2, *(point(100 * at + it, it % 3 == 0) for it in range(50))) for at in range(30)) + 3 * layer("layer 2", 2)
     names = Names(tile)
-    found = [(fault, names.of(fault)) for fault in mvtgate.faults(tile)]
+    found = [(fault, names.subject_of(fault)) for fault in mvtgate.faults(tile)]
     assert len(found) == 15 + 3 + 30 * 33
-    for fault, (name, identity) in found:
+    for fault, (name, identity, _, _) in found:
         assert name == f"layer {2 if fault.code == 202 else fault.layer}"
         assert identity == (None if fault.feature is None or fault.layer is None else 100 * fault.layer + fault.feature)
 

@@ -12,7 +12,7 @@ from typing import Any, Dict, List, Tuple
 import pytest
 
 from mvtgate.planet.geojson import Address, feature_text
-from mvtgate.planet.mercator import box_of, lon_lat
+from mvtgate.planet.mercator import bounds, box_of, lon_lat
 from mvtgate.planet.records import Place
 from mvtgate.planet.rows import Rows
 from planet.helpers.made import MADE, block, layer
@@ -96,6 +96,23 @@ def test_places_on_the_earth() -> None:
     # (in the buffer beyond the 180th degree, and of a tile far from the map)
     assert lon_lat(3, 7, 4, 4096 + 64, 0, 4096) == (-180 + 45 / 64, 0.0) and lon_lat(3, 0, 4, -64, 0, 4096) == (180 - 45 / 64, 0.0)
     assert lon_lat(1, 0, 2**40, 0, 0, 4096) == (-180.0, -90.0)
+
+
+@pytest.mark.parametrize(
+    ("zoom", "column", "least", "greatest", "wanted"),
+    [
+        # (with the buffer of 64 a layer of zoom 0 goes all around the earth, and more)
+        (0, 0, -64, 4160, (-180.0, 180.0)), (0, 0, 0, 4096, (-180.0, 180.0)), (0, 0, -1, 4095, (-180.0, 180.0)),
+        (0, 0, 1, 4095, (1 / 4096 * 360 - 180, 4095 / 4096 * 360 - 180)),
+        # (from 1/4096 beyond the 180th degree to the other side of it, all but two units of the way around)
+        (0, 0, -1, 4093, (180 - 360 / 4096, 4093 / 4096 * 360 - 180)), (0, 0, 4090, 4100, (4090 / 4096 * 360 - 180, 4 / 4096 * 360 - 180)),
+        (1, 0, -64, 4160, (180 - 64 / 8192 * 360, 64 / 8192 * 360)), (1, 1, -64, 4160, (-64 / 8192 * 360, 64 / 8192 * 360 - 180)),
+    ],
+)  # fmt: skip
+def test_bounds_around_the_earth(zoom: int, column: int, least: int, greatest: int, wanted: Tuple[float, float]) -> None:
+    """West and east, of which west is the greater one across the 180th degree (RFC 7946 section 5.2)."""
+    west, _, east, _ = bounds(zoom, column, 0, (least, 0, greatest, 1), 4096)
+    assert abs(west - wanted[0]) < 1e-9 and abs(east - wanted[1]) < 1e-9
 
 
 def test_points_between_positions() -> None:

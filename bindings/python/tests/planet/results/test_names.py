@@ -13,7 +13,7 @@ import pytest
 from conftest import SAMPLES, Sample, varint
 from mvtgate import Fault, Profile
 from mvtgate._files import LIMIT
-from mvtgate.planet.names import names_of
+from mvtgate.planet.names import Names
 from mvtgate.planet.unpack import NotUnpacked, unpacked
 from planet.helpers.planets import names_by_reader
 
@@ -23,6 +23,11 @@ FAULTY = [(it, line) for it in SAMPLES for line in it.lines[Profile.POLYGON] if 
 @pytest.mark.parametrize("sample, line", [it for it in FAULTY if it[0].is_tile], ids=lambda it: "" if isinstance(it, str) else it.path.stem)
 def test_samples(sample: Sample, line: str) -> None:
     assert names_of(sample.tile, Fault.from_text(line)) == names_by_reader(sample.tile, line)
+
+
+def names_of(tile: bytes, fault: Fault) -> Tuple[Optional[str], Optional[int]]:
+    subject = Names(tile).subject_of(fault)
+    return subject.layer, subject.feature_id
 
 
 def message(number: int, payload: bytes) -> bytes:
@@ -52,7 +57,8 @@ PLACES = [
     # (a layer that is cut, and one that isn't there)
     (wire(scope="layer", layer=2), (None, None)),
     (wire(scope="layer", layer=3), (None, None)),
-    (Fault.from_text('{"code":202,"first":0,"second":1}'), ("roads", None)),
+    # (of two layers with one name the second one is looked at)
+    (Fault.from_text('{"code":202,"first":1,"second":0}'), ("roads", None)),
     (Fault.from_text('{"code":201,"layer":0}'), ("roads", None)),
 ]
 

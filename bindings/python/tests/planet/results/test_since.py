@@ -143,8 +143,9 @@ def test_tiles_that_cannot_be_judged_any_more(tmp_path: pathlib.Path, scheduler:
     assert second.process.returncode == UNJUDGED, second.stderr
     told = {(line["tile"], line["what"], line["code"]) for line in records(second.output / "since.jsonl")}
     assert told == {("2/0/0", "unjudged", 504), ("2/1/0", "unjudged", 504), ("2/2/0", "mended", 504)}
-    assert {key: summary(second)["since"][key] for key in ("mended", "unjudged")} == {"mended": 1, "unjudged": 2}
-    assert 'data-since="unjudged"' in (second.output / "report.html").read_text()
+    assert {key: summary(second)["since"][key] for key in ("judged", "mended", "unjudged")} == {"judged": 1, "mended": 1, "unjudged": 2}
+    html = (second.output / "report.html").read_text()
+    assert 'data-since="unjudged"' in html and "1 tile was judged, and 3 couldn't be; the others have the same bytes." in html
 
 
 @pytest.mark.parametrize("left", [None, b"", b"cut"])
@@ -198,6 +199,8 @@ def test_windows() -> None:
     assert Window(box=(0.0, 0.0, 11.25, 21.0)).ranges(5) == Ranges(16, 16, 14, 15)
     assert Window(box=(-180.0, -90.0, 180.0, 90.0)).ranges(3) == Ranges(0, 7, 0, 7)
     assert Ranges(0, 7, 1, 2).southern_rows(3) == (5, 6)
+    # (all numbers that SQLite has)
+    assert Window().ranges(3).southern_rows(3) == (-(2**63), 2**63 - 1)
     assert zooms_of("7") == (7, 7) and zooms_of("3-10") == (3, 10)
     for word in ("31", "5-3", "x", "-1", "1-", "٣"):
         with pytest.raises(ValueError):
@@ -278,3 +281,25 @@ def test_statuses_of_a_pipeline(planet: Planet, tmp_path: pathlib.Path, schedule
 def test_wrong_words(planet: Planet, tmp_path: pathlib.Path, words: List[str]) -> None:
     it = run(tmp_path / "out", planet.path, *words)
     assert it.process.returncode == REFUSED and "usage: mvtgate-planet" in it.stderr and not it.output.exists()
+
+
+def test_report_in_the_place_of_tiles(planet: Planet, tmp_path: pathlib.Path) -> None:
+    """Where its name was left out, the next file isn't written over, nor one that is judged."""
+    other = tmp_path / "other.mbtiles"
+    other.write_bytes(planet.path.read_bytes())
+    link = tmp_path / "link"
+    link.symlink_to(planet.path)
+    before = planet.path.read_bytes()
+    for junit in (other, link):
+        it = run(tmp_path / "out", "--junit", junit, planet.path)
+        assert it.process.returncode == REFUSED and it.said[-1] == f"mvtgate-planet: {junit}: --junit takes the name of a report, and this is that of tiles"
+    assert other.read_bytes() == planet.path.read_bytes() == before and link.is_symlink() and not (tmp_path / "out/journal.jsonl").exists()
+
+
+def test_since_its_own_folder(earlier: Tuple[Planet, Run], tmp_path: pathlib.Path) -> None:
+    """As where both are the folder that a run without --output has."""
+    planet, was = earlier
+    (tmp_path / "link").symlink_to(was.output)
+    it = run(tmp_path / "link", planet.path, "--since", was.output)
+    assert it.process.returncode == REFUSED
+    assert it.said[-1] == f"mvtgate-planet: {was.output}: the earlier run stays, so this one needs another --output"

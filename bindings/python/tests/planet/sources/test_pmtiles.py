@@ -2,6 +2,7 @@
 from __future__ import annotations
 
 import dataclasses
+import gc
 import gzip
 import json
 import os
@@ -100,6 +101,29 @@ def test_survey_and_places(tmp_path: pathlib.Path) -> None:
     for it in tiles:
         assert list(source.at(it.zoom, it.column, it.row)) == [it.stored]
     assert list(source.at(9, 0, 0)) == [] and source.tile(3, 0, 0) is None
+
+
+def test_file_is_closed(tmp_path: pathlib.Path) -> None:
+    """By a call, or with the source itself: nothing that it keeps leads back to it. A file that is no archive isn't kept open either."""
+    path, broken = tmp_path / "it.pmtiles", tmp_path / "broken.pmtiles"
+    write_archive(path, sample_tiles(), leaf=8)
+    broken.write_bytes(path.read_bytes()[:-1])
+    gc.disable()
+    try:
+        before = os.listdir("/proc/self/fd")
+        source = open_source(str(path))
+        assert source.survey() and len(os.listdir("/proc/self/fd")) == len(before) + 1
+        source.close()
+        assert len(os.listdir("/proc/self/fd")) == len(before)
+        source = open_source(str(path))
+        source.survey()
+        del source
+        assert len(os.listdir("/proc/self/fd")) == len(before)
+        with pytest.raises(NotASource):
+            open_source(str(broken))
+        assert len(os.listdir("/proc/self/fd")) == len(before)
+    finally:
+        gc.enable()
 
 
 def test_many_tiles_of_one_content(tmp_path: pathlib.Path) -> None:

@@ -35,9 +35,9 @@ class Change:
 
     @property
     def share(self) -> float:
-        """By how much its area is another one, as a share of its tile's."""
+        """By how much its area is another one, as a share of its tile's, where that has one."""
         before, after, extent = self.line.get("area_before", 0.0), self.line.get("area_after", 0.0), self.line["extent"]
-        return float(abs(after - before) / extent**2)
+        return float(abs(after - before) / extent**2) if extent else 0.0
 
 
 @dataclass

@@ -7,6 +7,7 @@ from __future__ import annotations
 
 import array
 import bisect
+import contextlib
 import os
 from typing import BinaryIO, Dict, Iterator, List, Tuple
 
@@ -75,8 +76,7 @@ class CopyOfPmtiles(Copy):
         """All that could be wrong is found when the source is opened."""
 
     def fill(self, tiles: Iterator[Replaced]) -> None:
-        source = Pmtiles(self.source)
-        with open(self.part, "wb") as file:
+        with contextlib.closing(Pmtiles(self.source)) as source, open(self.part, "wb") as file:
             file.write(bytes(HEAD))
             metadata = Section(HEAD, source.header.metadata.length)
             _copy(source, source.header.metadata, file)

@@ -56,7 +56,8 @@ def _lines_of(address: Address, tile: bytes, changed: List[Dict[str, Any]]) -> I
     names = Names(tile)
     for it in changed:
         subject = names.subject(it["layer"], it["feature"])
-        box = None if subject.feature is None else box_of(subject.feature)
+        # (of a layer whose extent is 0 nothing is anywhere)
+        box = None if subject.feature is None or subject.extent == 0 else box_of(subject.feature)
         areas = [int(area) / 2 for area in it.get("area", ())]
         yield {
             "layer": subject.layer,

@@ -331,6 +331,7 @@ def difference_of(report: Report) -> Optional[View]:
     return {
         "folder": readable(it.folder),
         "judged": totals.tiles - totals.reused - totals.unjudged,
+        "failed": totals.unjudged,
         "kinds": [
             {
                 "name": name,

@@ -7,6 +7,7 @@ import re
 import sqlite3
 import threading
 import urllib.parse
+import weakref
 from typing import Any, Dict, Iterator, List, Optional, Tuple
 
 from ..._files import LIMIT
@@ -61,6 +62,11 @@ class Mbtiles(Source):
         self._uri = uri_of(self.path)
         self._modified = self.modified()
         self._of_thread = threading.local()
+        self._databases: List[sqlite3.Connection] = []
+        # (one that nobody closes stays open until there is a collection, also without this source)
+        self._close = weakref.finalize(self, _close_all, self._databases)
+        # (at a process's end other threads may still read)
+        self._close.atexit = False
 
     def _log(self) -> Optional[str]:
         """A file with changes that aren't in this one yet, or with what to put back into it. It isn't read: the file is taken as it is."""
@@ -79,10 +85,14 @@ class Mbtiles(Source):
             if not hasattr(self._of_thread, "database"):
                 # (whichever thread clears away a query that isn't read to its end. Dask's profile holds on to them for a while.)
                 self._of_thread.database = sqlite3.connect(self._uri, uri=True, check_same_thread=False)
+                self._databases.append(self._of_thread.database)
             yield from self._of_thread.database.execute(query, words)
         except (sqlite3.Error, UnicodeDecodeError) as error:
             # (an error of SQLite may quote what is no text)
             raise NotASource(f"{self.path}: {error}") from None
+
+    def close(self) -> None:
+        self._close()
 
     def _require_index(self) -> None:
         """Without an index each part would cost a walk over all tiles."""
@@ -150,6 +160,11 @@ class Mbtiles(Source):
 
     def at(self, zoom: int, column: int, row: int) -> Iterator[bytes]:
         return (data for (data,) in self._rows(_AT, (zoom, column, _turned(zoom, row))) if data is not None)
+
+
+def _close_all(databases: List[sqlite3.Connection]) -> None:
+    for it in databases:
+        it.close()
 
 
 def uri_of(path: str) -> str:

@@ -79,6 +79,9 @@ class Source(abc.ABC):
     def at(self, zoom: int, column: int, row: int) -> Iterator[bytes]:
         """The stored bytes at a place, with its row from the north: one tile, or more where a source has several there."""
 
+    def close(self) -> None:
+        """Lets go of its files. Nothing more may be asked of it."""
+
     def tile(self, zoom: int, column: int, row: int) -> Optional[bytes]:
         """The stored bytes of the tile at a place. None where they can't be read."""
         try:

@@ -14,7 +14,7 @@ from .blocks import Blocks
 from .directory import LIMIT as LIMIT_OF_DIRECTORY, Entry, entries_of
 from .header import SIZE, Header, Section
 from .ids import Box, box_of, first_id, id_of, ids_within, place_of
-from .ranges import is_address, ranges_of
+from .ranges import Ranges, is_address, ranges_of
 
 # the archive begins with the header and the root directory, which are within so many bytes
 _HEAD = 16_384
@@ -52,9 +52,11 @@ class Pmtiles(Source):
             for section in (self.header.root, self.header.metadata, self.header.leaves, self.header.data):
                 self._require(section)
         except NotASource as error:
+            self.close()
             raise NotASource(f"{path}: {error}") from None
         self._modified = self.modified()
-        self._leaf = functools.lru_cache(maxsize=_KEPT_DIRECTORIES)(self._read_leaf)
+        # (not of a method: what is kept would keep the archive, and its file open)
+        self._leaf = functools.lru_cache(maxsize=_KEPT_DIRECTORIES)(functools.partial(_leaf_of, self.ranges, self.header))
 
     def _require(self, section: Section) -> None:
         if section.offset + section.length > self.ranges.size:
@@ -76,28 +78,19 @@ class Pmtiles(Source):
         if not is_same:
             raise SourceChanged(f"{self.path} isn't the file that it was when the run began")
 
+    def close(self) -> None:
+        self.ranges.close()
+
     # Directories
 
     @functools.cached_property
     def _root(self) -> List[Entry]:
         offset, length = self.header.root
         try:
-            packed = self._head[offset : offset + length] if offset + length <= len(self._head) else self._packed(offset, length)
+            packed = self._head[offset : offset + length] if offset + length <= len(self._head) else _packed(self.ranges, offset, length)
             return entries_of(packed, self.header.directories)
         except NotASource as error:
             raise NotASource(f"{self.path}: {error}") from None
-
-    def _packed(self, offset: int, length: int) -> bytes:
-        """A directory as it is stored. Nothing is reserved for a length that was read and can't be right."""
-        if length > 2 * LIMIT_OF_DIRECTORY:
-            raise NotASource(f"a directory is larger than {LIMIT_OF_DIRECTORY} bytes")
-        return self.ranges.read(offset, length)
-
-    def _read_leaf(self, level: _Level) -> List[Entry]:
-        if level.offset + level.length > self.header.leaves.length:
-            raise NotASource("a leaf directory is beyond the end of its part of the archive")
-        packed = self._packed(self.header.leaves.offset + level.offset, level.length)
-        return entries_of(packed, self.header.directories, level.first, level.after)
 
     def _below(self, entries: List[Entry], at: int, after: int) -> _Level:
         """The leaf directory that an entry leads to."""
@@ -210,6 +203,21 @@ class Pmtiles(Source):
             data, why = Blocks(self.ranges, self.header.data, [entry]).of(entry)
             if why is None:
                 yield data
+
+
+def _packed(ranges: Ranges, offset: int, length: int) -> bytes:
+    """A directory as it is stored. Nothing is reserved for a length that was read and can't be right."""
+    if length > 2 * LIMIT_OF_DIRECTORY:
+        raise NotASource(f"a directory is larger than {LIMIT_OF_DIRECTORY} bytes")
+    return ranges.read(offset, length)
+
+
+def _leaf_of(ranges: Ranges, header: Header, level: _Level) -> List[Entry]:
+    """The entries of a leaf directory."""
+    if level.offset + level.length > header.leaves.length:
+        raise NotASource("a leaf directory is beyond the end of its part of the archive")
+    packed = _packed(ranges, header.leaves.offset + level.offset, level.length)
+    return entries_of(packed, header.directories, level.first, level.after)
 
 
 def _from(entries: List[Entry], first: int) -> int:

@@ -49,6 +49,9 @@ class Ranges(abc.ABC):
     def size(self) -> int:
         """How many bytes there are."""
 
+    def close(self) -> None:
+        """Lets go of what is open."""
+
 
 class FileRanges(Ranges):
     """A file. Threads may read at once."""
@@ -78,6 +81,9 @@ class FileRanges(Ranges):
 
     def modified(self) -> int:
         return os.stat(self._path).st_mtime_ns
+
+    def close(self) -> None:
+        self._file.close()
 
 
 class _Answer(NamedTuple):
