@@ -88,3 +88,20 @@ def test_the_first_lines_of_the_document(cursor: Any) -> None:
     cursor.execute(found[1])
     cursor.execute("SELECT bool_and(mvt_is_valid(tile)) FROM tiles")
     assert cursor.fetchone() == (True,)
+
+
+def test_the_lines_of_embedding(areas: Any) -> None:
+    text = (TOP / "docs/EMBEDDING.md").read_text()
+    found = re.search(r"(?ms)^```sql\nCREATE EXTENSION mvtgate;\n(.*?;\n)(SELECT mvt_mend.*?;)[^\n]*\n(SELECT .*?;)\n```$", text)
+    assert found
+    unmended(areas)
+    envelope = "ST_TileEnvelope(6, 1, 20)"
+    areas.execute(f"CREATE TABLE rows AS SELECT id, name, ST_AsMVTGeom(geometry, {envelope}) AS shape FROM areas WHERE geometry && {envelope}")
+    areas.execute(found[1])
+    areas.execute("INSERT INTO tiles VALUES (0, 0, 0, %s)", (VALID,))
+    with pytest.raises(psycopg2.errors.CheckViolation):
+        areas.execute("INSERT INTO tiles VALUES (0, 0, 1, %s)", (CROSSING,))
+    areas.execute(found[2])
+    assert mvtgate.check(bytes(areas.fetchone()[0])) is None
+    areas.execute(found[3])
+    assert {(z, x, y) for z, x, y, _ in areas.fetchall()} == {(6, x, 20) for x in FAULTY}
